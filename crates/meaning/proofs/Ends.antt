@@ -8,7 +8,9 @@ use mathlib.Core.Option.{Option, none, some}
 use Prim.Native.Nat.{ℕ}
 use native.Mathlib.Omega.{arith}
 use Rattle.meaning.specs.Base.{Out, ok, refused, _>>=_, require, given, refuseAt}
-use Rattle.meaning.specs.Rules.{Does, after}
+use Rattle.meaning.specs.Types.{Table}
+use Rattle.meaning.specs.Rules.{Does, after, fromOut}
+use Rattle.meaning.specs.Typing.{State, leaving}
 
 -- an answer has the property P, and a refusal's number and place have the property R
 pub data Ends {A : Type 0} (P : A → Type 0) (R : ℕ → ℕ → Type 0) : Out A → Type 0 where
@@ -43,10 +45,19 @@ pub ends-both : {A : Type 0} {P Q : A → Type 0} {R S : ℕ → ℕ → Type 0}
 ends-both (gives h) (gives k) = gives (h, k)
 ends-both (stops r) (stops s) = stops (r, s)
 
+-- two facts about one answer, of which only the second speaks of refusals
+pub ends-and : {A : Type 0} {P Q : A → Type 0} {R S : ℕ → ℕ → Type 0} {m : Out A} → Ends P R m → Ends Q S m → Ends (λ a. P a × Q a) S m
+ends-and (gives h) (gives k) = gives (h, k)
+ends-and (stops r) (stops s) = stops s
+
 -- every answer ends somehow, and an answer is what it is
 pub ends-any : {A : Type 0} (m : Out A) → Ends (λ a. m ≡ ok a) (λ n p. m ≡ refused n p) m
 ends-any (ok a) = gives refl
 ends-any (refused n p) = stops refl
+
+pub ends-anyhow : {A : Type 0} (m : Out A) → Ends Any Anyhow m
+ends-anyhow (ok a) = gives tt
+ends-anyhow (refused n p) = stops tt
 
 pub ends-ok : {A : Type 0} {P : A → Type 0} {R : ℕ → ℕ → Type 0} {a : A} → Ends P R (ok a) → P a
 ends-ok (gives h) = h
@@ -58,6 +69,15 @@ pub ends-require : {R : ℕ → ℕ → Type 0} (b : Bool) (n p : ℕ) → R n p
 ends-require true n p r = gives refl
 ends-require false n p r = stops r
 
+-- the same, with what a failing test tells; and a choice by a test
+pub ends-test : {R : ℕ → ℕ → Type 0} (b : Bool) (n p : ℕ) → (b ≡ false → R n p) → Ends (λ _. b ≡ true) R (require b n p)
+ends-test true n p r = gives refl
+ends-test false n p r = stops (r refl)
+
+pub ends-elim : {A : Type 0} {P : A → Type 0} {R : ℕ → ℕ → Type 0} {x y : Out A} (b : Bool) → (b ≡ true → Ends P R x) → (b ≡ false → Ends P R y) → Ends P R (elim b [ true ↦ x | false ↦ y ])
+ends-elim true h k = h refl
+ends-elim false h k = k refl
+
 pub ends-given : {A : Type 0} {R : ℕ → ℕ → Type 0} (o : Option A) (n p : ℕ) → R n p → Ends (λ a. o ≡ some a) R (given o n p)
 ends-given none n p r = stops r
 ends-given (some a) n p r = gives refl
@@ -65,6 +85,15 @@ ends-given (some a) n p r = gives refl
 pub ends-refuseAt : {R : ℕ → ℕ → Type 0} (n : ℕ) (o : Option ℕ) → ((p : ℕ) → o ≡ some p → R n p) → Ends (λ _. o ≡ none) R (refuseAt n o)
 ends-refuseAt n none r = gives refl
 ends-refuseAt n (some p) r = stops (r p refl)
+
+-- a rule on the state's type table, and an answer that leaves the state alone
+pub ends-leaving : {A : Type 0} {P : Table × A → Type 0} {R : ℕ → ℕ → Type 0} (s : State) {m : Out (Table × A)} → Ends P R m → Ends (λ r. P (r .0 .types, r .1)) R (leaving s m)
+ends-leaving s (gives h) = gives h
+ends-leaving s (stops r) = stops r
+
+pub ends-from : {S A B : Type 0} {P : A → Type 0} {Q : S × B → Type 0} {R : ℕ → ℕ → Type 0} {m : Out A} (s : S) (f : A → Does S B) → Ends P R m → ((a : A) → P a → Ends Q R (f a s)) → Ends Q R (after (fromOut m s) f)
+ends-from s f (gives h) k = k _ h
+ends-from s f (stops r) k = stops r
 
 -- KEEPS: what the first accepts the second accepts, with the same answer
 pub data Keeps {A : Type 0} : Out A → Out A → Type 0 where

@@ -1,7 +1,7 @@
 -- Laws of what stands at a place of a list, of what stands in it, and of a list that grows at its end.
 -- Assumes nothing.
 use mathlib.Core.Path.{_≡_, refl, ap, sym, _∙_}
-use mathlib.Core.Bool.{Bool, true, false}
+use mathlib.Core.Bool.{Bool, true, false, _&&_}
 use mathlib.Core.List.{List, [], _∷_, _++_, append-assoc, append-nil}
 use mathlib.Core.Option.{Option, none, some}
 use Prim.Native.Nat.{ℕ, suc, zero, _+_, _≤_, _<_}
@@ -14,6 +14,11 @@ absurd-option p = let z : _≡_ {A = ℕ} 0 1 = cc in absurd (omega arith)
 
 pub never : {A : Type 0} → false ≡ true → A
 never p = let z : _≡_ {A = ℕ} 0 1 = cc in absurd (omega arith)
+
+-- both of two tests
+pub both-true : (b c : Bool) → b && c ≡ true → (b ≡ true) × (c ≡ true)
+both-true true c e = (refl, e)
+both-true false c e = never e
 
 -- AT
 pub at-one : {A : Type 0} {l : List A} {n : ℕ} {x y : A} → At l n x → At l n y → x ≡ y
@@ -69,6 +74,16 @@ old-of (z ∷ l) x (suc i) y P p f g = old-of l x i y P p f (λ e q. g (ap suc e
 pub at-old : {A : Type 0} {l : List A} {x : A} {i : ℕ} {y : A} (P : Type 0) → At (l ++ (x ∷ [])) i y → (At l i y → P) → (i ≡ length l → x ≡ y → P) → P
 at-old {l = l} {x = x} {i = i} {y = y} P p f g = old-of l x i y P (p .is) (λ q. f (record { is = q })) g
 
+-- two lists joined, whose first parts are of one length, are the same only if both parts are
+pub append-parts : {A : Type 0} (a c b d : List A) → length a ≡ length c → a ++ b ≡ c ++ d → (a ≡ c) × (b ≡ d)
+append-parts [] [] b d n e = (refl, e)
+append-parts [] (y ∷ c) b d n e = absurd (omega arith)
+append-parts (x ∷ a) [] b d n e = absurd (omega arith)
+append-parts (x ∷ a) (y ∷ c) b d n e = go (append-parts a c b d (omega arith) (cc))
+  where
+    go : (a ≡ c) × (b ≡ d) → (x ∷ a ≡ y ∷ c) × (b ≡ d)
+    go p = (cc, p .1)
+
 -- IN
 pub in-left : {A : Type 0} {x : A} {l : List A} (m : List A) → In x l → In x (l ++ m)
 in-left m first = first
@@ -85,6 +100,24 @@ in-cons h k x (later i) = k x i
 
 pub in-none : {A : Type 0} {P : Type 0} {x : A} → In x [] → P
 in-none = elim [ ]
+
+-- a property of both parts' members is one of all members; what stands at a place is a member; `getD` gives a member or the default
+pub in-both : {A : Type 0} {P : A → Type 0} (l : List A) {m : List A} → ((x : A) → In x l → P x) → ((x : A) → In x m → P x) → (x : A) → In x (l ++ m) → P x
+in-both [] h k = k
+in-both (y ∷ l) h k = in-cons (h y first) (in-both l (λ x i. h x (later i)) k)
+
+in-of : {A : Type 0} (l : List A) (n : ℕ) (x : A) → getElem? l n ≡ some x → In x l
+in-of [] n x e = absurd-option e
+in-of (y ∷ l) zero x e = let p : x ≡ y = cc in rw p first
+in-of (y ∷ l) (suc n) x e = later (in-of l n x e)
+
+pub at-in : {A : Type 0} {l : List A} {n : ℕ} {x : A} → At l n x → In x l
+at-in {l = l} {n = n} {x = x} p = in-of l n x (p .is)
+
+pub getD-has : {A : Type 0} {P : A → Type 0} (l : List A) (n : ℕ) (z : A) → ((x : A) → In x l → P x) → P z → P (getD l n z)
+getD-has [] n z h p = p
+getD-has (y ∷ l) zero z h p = h y first
+getD-has (y ∷ l) (suc n) z h p = getD-has l n z (λ x i. h x (later i)) p
 
 -- GROWING: U is T with more at its end
 pub record Grows {A : Type 0} (T U : List A) : Type 0 where

@@ -16,3 +16,4 @@ pub mod Answers
 pub mod Values
 pub mod Running
 pub mod Worked
+pub mod Readings

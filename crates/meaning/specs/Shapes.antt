@@ -42,20 +42,20 @@ pub data Class : Type 0 where
   one maybe more any : Class
 
 -- "A class may allow none (? and *) or many (+ and *)."
-abbrev pub none : Class → Bool
+unfoldable pub none : Class → Bool
 none one = false
 none maybe = true
 none more = false
 none any = true
 
-abbrev pub many : Class → Bool
+unfoldable pub many : Class → Bool
 many one = false
 many maybe = false
 many more = true
 many any = true
 
 -- the class that allows so
-abbrev pub allowing : Bool → Bool → Class
+unfoldable pub allowing : Bool → Bool → Class
 allowing false false = one
 allowing true false = maybe
 allowing false true = more
@@ -66,13 +66,13 @@ abbrev pub either : Class → Class → Class
 either p q = allowing (none p || none q) (many p || many q)
 
 -- "',' allows none if both do and always allows many, as S figure 7; '|' and '.' .. if either does"
-abbrev pub comma : Class → Class → Class
+unfoldable pub comma : Class → Class → Class
 comma p q = allowing (none p && none q) true
 
-abbrev pub bar : Class → Class → Class
+unfoldable pub bar : Class → Class → Class
 bar p q = either p q
 
-abbrev pub dot : Class → Class → Class
+unfoldable pub dot : Class → Class → Class
 dot p q = either p q
 
 -- "() is ?; an atom 1; pair, union by ',' and '|'; star, plus, opt are the child's with .*, .+, .?; a name its definition's" (S definition 5.2)
