@@ -12,7 +12,7 @@ use Rattle.meaning.specs.Queries as Queries
 use Rattle.meaning.specs.Queries.{Cond, Query, expandCond, expandQuery, condIn, queryIn, condAt, queryAt}
 use Rattle.meaning.proofs.Lists.{at-is, in-cons, in-none}
 use Rattle.meaning.proofs.Nodes.{InCond, InQuery}
-use Rattle.meaning.proofs.Reading.{NodeLow, query·empty, query·text, query·element, query·pair, query·variable, query·child, query·dos, query·for, query·let, query·when, condition·true, condition·false, condition·equal, condition·empty, condition·or, condition·not}
+use Rattle.meaning.specs.Formed.{NodeLow, query·empty, query·text, query·element, query·pair, query·variable, query·child, query·dos, query·for, query·let, query·when, condition·true, condition·false, condition·equal, condition·empty, condition·or, condition·not}
 use Rattle.meaning.proofs.Labels.{Labels}
 
 -- ONE NODE, which names lower ones

@@ -11,6 +11,7 @@ use lib.ListN.{length}
 use Rattle.meaning.specs.Base.{find}
 use Rattle.meaning.specs.Kinds
 use Rattle.meaning.specs.Records.{Section, types, definitions, variables, query, result, value, Sort, label, entryNo, defNo, varNo, anyWord, queryNo, condNo, Form, forms, File, hasSection, ownForm, lengthOf, Node, nodeAt, isCondition, fits, allFit}
+use Rattle.meaning.specs.Formed.{Names}
 use Rattle.meaning.proofs.Lists.{absurd-option, both-true}
 use Rattle.meaning.proofs.Finding.{Rows, end, _&_, find-row, test-rows}
 
@@ -110,11 +111,7 @@ own-form file (some g) f h = go (hasSection file (g .section)) refl h
     go true e p = let same : g ≡ f = cc in (p, rw (← same) e)
     go false e p = absurd-option p
 
--- FITTING. w names a node before node n that is a condition, or is none
-pub record Names (code : List Node) (n : ℕ) (condition : Bool) (w : ℕ) : Type 0 where
-  pub low : w < n
-  pub sort : isCondition (nodeAt code w .kind) ≡ condition
-
+-- FITTING
 -- what it means that a field fits its sort
 abbrev pub Fit : ℕ → List Node → Sort → ℕ → Type 0
 Fit n code label w = (1 ≤ w) × (w ≤ 65534)

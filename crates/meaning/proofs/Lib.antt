@@ -28,3 +28,6 @@ pub mod RuleMembers
 pub mod Times
 pub mod DosMembers
 pub mod Sound
+pub mod Jobs
+pub mod JobSound
+pub mod Witness

@@ -11,12 +11,12 @@ use native.Mathlib.Omega.{arith}
 use native.Mathlib.Decide.{ℕ-discrete}
 use borrow.Author.Tests.{eq-eqb, eqb-true}
 use lib.ListN.{length, getD, set, replicate, length-set, length-replicate}
-use Rattle.meaning.specs.Base.{At, In, first, later, isSome, lowestFrom, lowest, keptFrom}
+use Rattle.meaning.specs.Base.{At, In, first, later, isSome, lowest, keptFrom}
 use Rattle.meaning.specs.Forests.{Head, passes}
 use Rattle.meaning.specs.Types as Types
 use Rattle.meaning.specs.Types.{Entry, Table, Defs, at, headOf, nameOf}
 use Rattle.meaning.specs.Reach.{stepsOf, Path, here, step, mark, sweep, sweeps, reached, names, reachesName, loops, atomPasses, atomsBelow}
-use Rattle.meaning.proofs.Lists.{never, both-true, at-low, at-getD, at-is, in-cons, in-none}
+use Rattle.meaning.proofs.Lists.{never, both-true, at-low, at-getD, at-is}
 use Rattle.meaning.proofs.Searches.{lowest-some, some-lowest, kept-exact, Increasing, kept-increasing}
 
 abbrev pub Marked : List Bool → ℕ → Type 0

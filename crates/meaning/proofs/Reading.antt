@@ -9,18 +9,18 @@ use native.Mathlib.Omega.{arith}
 use borrow.Author.Tests.{leb-true, ltb-true, ltb-false, not-true, eqb-true, not-false, lt-leb}
 use lib.Dec.{leb, ltb, eqb}
 use lib.ListN.{length, getD, length-append, List·getD-append}
-use Rattle.meaning.specs.Base.{Out, ok, refused, _>>=_, require, find, isSome, At, Caps, capsOf, word}
+use Rattle.meaning.specs.Base.{Out, ok, refused, _>>=_, find, isSome, At, Caps, capsOf, word}
 use Rattle.meaning.specs.Kinds
 use Rattle.meaning.specs.Types as Types
 use Rattle.meaning.specs.Types.{Entry, Table, Defs, entryOf}
-use Rattle.meaning.specs.Formed.{Lower}
+use Rattle.meaning.specs.Formed.{Lower, Names, NodeLow}
 use Rattle.meaning.specs.Records as Records
 use Rattle.meaning.specs.Records.{Section, Sort, forms, File, hasSection, formIn, order, Record, field, fieldsAt, lengthOf, recordAt, Var, varOf, Node, node, Tables, fresh, inOrder, hasRoom, isCondition, allFit, declaredAgain, put, readRecord, readFrom, readRecords}
 use Rattle.meaning.specs.Typing.{typeIn}
 use Rattle.meaning.proofs.Lists.{absurd-option, never, both-true, at-append, at-old, at-low}
-use Rattle.meaning.proofs.Ends.{Ends, gives, stops, ends-bind, ends-by, ends-require, ends-test, ends-given}
+use Rattle.meaning.proofs.Ends.{Ends, gives, ends-bind, ends-by, ends-require, ends-test, ends-given}
 use Rattle.meaning.proofs.Finding.{find-absent}
-use Rattle.meaning.proofs.Grammar.{Row, form-row, form-length, longest, own-form, Names, AllFit, all-fit}
+use Rattle.meaning.proofs.Grammar.{Row, form-row, form-length, longest, own-form, AllFit, all-fit}
 
 -- CAPACITIES that a lent table can have
 pub record Small (caps : Caps) : Type 0 where
@@ -30,48 +30,29 @@ pub record Small (caps : Caps) : Type 0 where
 pub capsOf-small : (a b : ℕ) → Small (capsOf a b)
 capsOf-small a b = record { types = omega arith; code = omega arith }
 
--- NODES. A query entry as a record may give it when n stand before it: what it names stands before it and is of the right sort; unused words are 0.
-pub data NodeLow (code : List Node) (n : ℕ) : Node → Type 0 where
-  query·empty : NodeLow code n (node Kinds.query·empty 0 0 0)
-  query·text : {t : ℕ} → NodeLow code n (node Kinds.query·text t 0 0)
-  query·element : {l q : ℕ} → 1 ≤ l → l ≤ 65534 → Names code n false q → NodeLow code n (node Kinds.query·element l q 0)
-  query·pair : {p q : ℕ} → Names code n false p → Names code n false q → NodeLow code n (node Kinds.query·pair p q 0)
-  query·variable : {v : ℕ} → v ≤ 63 → NodeLow code n (node Kinds.query·variable v 0 0)
-  query·child : {v w : ℕ} → v ≤ 63 → NodeLow code n (node Kinds.query·child v w 0)
-  query·dos : {v w : ℕ} → v ≤ 63 → NodeLow code n (node Kinds.query·dos v w 0)
-  query·for : {v p q : ℕ} → v ≤ 63 → Names code n false p → Names code n false q → NodeLow code n (node Kinds.query·for v p q)
-  query·let : {v p q : ℕ} → v ≤ 63 → Names code n false p → Names code n false q → NodeLow code n (node Kinds.query·let v p q)
-  query·when : {p q : ℕ} → Names code n true p → Names code n false q → NodeLow code n (node Kinds.query·when p q 0)
-  condition·true : NodeLow code n (node Kinds.condition·true 0 0 0)
-  condition·false : NodeLow code n (node Kinds.condition·false 0 0 0)
-  condition·equal : {v w : ℕ} → v ≤ 63 → w ≤ 63 → NodeLow code n (node Kinds.condition·equal v w 0)
-  condition·empty : {v : ℕ} → v ≤ 63 → NodeLow code n (node Kinds.condition·empty v 0 0)
-  condition·or : {p q : ℕ} → Names code n true p → Names code n true q → NodeLow code n (node Kinds.condition·or p q 0)
-  condition·not : {p : ℕ} → Names code n true p → NodeLow code n (node Kinds.condition·not p 0 0)
-
--- more nodes behind do not matter
+-- NODES: more nodes behind do not matter
 module _ {code : List Node} {n : ℕ} (more : List Node) (low : n ≤ length code) where
   names-grow : {b : Bool} {w : ℕ} → Names code n b w → Names (code ++ more) n b w
   names-grow {w = w} h =
       record { low = h .low; sort = ap (λ (x : Node). isCondition (x .kind)) (List·getD-append code more (node 0 0 0 0) w (omega arith)) ∙ h .sort }
 
   pub low-grow : {x : Node} → NodeLow code n x → NodeLow (code ++ more) n x
-  low-grow query·empty = query·empty
-  low-grow query·text = query·text
-  low-grow (query·element h k q) = query·element h k (names-grow q)
-  low-grow (query·pair p q) = query·pair (names-grow p) (names-grow q)
-  low-grow (query·variable v) = query·variable v
-  low-grow (query·child v) = query·child v
-  low-grow (query·dos v) = query·dos v
-  low-grow (query·for v p q) = query·for v (names-grow p) (names-grow q)
-  low-grow (query·let v p q) = query·let v (names-grow p) (names-grow q)
-  low-grow (query·when p q) = query·when (names-grow p) (names-grow q)
-  low-grow condition·true = condition·true
-  low-grow condition·false = condition·false
-  low-grow (condition·equal v w) = condition·equal v w
-  low-grow (condition·empty v) = condition·empty v
-  low-grow (condition·or p q) = condition·or (names-grow p) (names-grow q)
-  low-grow (condition·not p) = condition·not (names-grow p)
+  low-grow NodeLow.query·empty = NodeLow.query·empty
+  low-grow NodeLow.query·text = NodeLow.query·text
+  low-grow (NodeLow.query·element h k q) = NodeLow.query·element h k (names-grow q)
+  low-grow (NodeLow.query·pair p q) = NodeLow.query·pair (names-grow p) (names-grow q)
+  low-grow (NodeLow.query·variable v) = NodeLow.query·variable v
+  low-grow (NodeLow.query·child v) = NodeLow.query·child v
+  low-grow (NodeLow.query·dos v) = NodeLow.query·dos v
+  low-grow (NodeLow.query·for v p q) = NodeLow.query·for v (names-grow p) (names-grow q)
+  low-grow (NodeLow.query·let v p q) = NodeLow.query·let v (names-grow p) (names-grow q)
+  low-grow (NodeLow.query·when p q) = NodeLow.query·when (names-grow p) (names-grow q)
+  low-grow NodeLow.condition·true = NodeLow.condition·true
+  low-grow NodeLow.condition·false = NodeLow.condition·false
+  low-grow (NodeLow.condition·equal v w) = NodeLow.condition·equal v w
+  low-grow (NodeLow.condition·empty v) = NodeLow.condition·empty v
+  low-grow (NodeLow.condition·or p q) = NodeLow.condition·or (names-grow p) (names-grow q)
+  low-grow (NodeLow.condition·not p) = NodeLow.condition·not (names-grow p)
 
 -- THE INVARIANT, table by table: with room for so many entries, and with n type entries
 pub record TypesRead (room : ℕ) (T : Table) : Type 0 where
@@ -179,22 +160,22 @@ module _ (n : ℕ) (code : List Node) (s : List ℕ) (at : ℕ) where
 
   node-low : {k : ℕ} {ss : List Sort} → Row Records.query k ss → AllFit n code ss (fieldsAt s at ss) → NodeLow code (length code) (node k (getD (fieldsAt s at ss) 0 0) (getD (fieldsAt s at ss) 1 0) (getD (fieldsAt s at ss) 2 0))
   unfolding fieldsAt
-  node-low Row.query·empty h = query·empty
-  node-low Row.query·text h = query·text
-  node-low Row.query·element h = query·element (h .0 .0) (h .0 .1) (h .1 .0)
-  node-low Row.query·pair h = query·pair (h .0) (h .1 .0)
-  node-low Row.query·variable h = query·variable (h .0)
-  node-low Row.query·child h = query·child (h .0)
-  node-low Row.query·dos h = query·dos (h .0)
-  node-low Row.query·for h = query·for (h .0) (h .1 .0) (h .1 .1 .0)
-  node-low Row.query·let h = query·let (h .0) (h .1 .0) (h .1 .1 .0)
-  node-low Row.query·when h = query·when (h .0) (h .1 .0)
-  node-low Row.condition·true h = condition·true
-  node-low Row.condition·false h = condition·false
-  node-low Row.condition·equal h = condition·equal (h .0) (h .1 .0)
-  node-low Row.condition·empty h = condition·empty (h .0)
-  node-low Row.condition·or h = condition·or (h .0) (h .1 .0)
-  node-low Row.condition·not h = condition·not (h .0)
+  node-low Row.query·empty h = NodeLow.query·empty
+  node-low Row.query·text h = NodeLow.query·text
+  node-low Row.query·element h = NodeLow.query·element (h .0 .0) (h .0 .1) (h .1 .0)
+  node-low Row.query·pair h = NodeLow.query·pair (h .0) (h .1 .0)
+  node-low Row.query·variable h = NodeLow.query·variable (h .0)
+  node-low Row.query·child h = NodeLow.query·child (h .0)
+  node-low Row.query·dos h = NodeLow.query·dos (h .0)
+  node-low Row.query·for h = NodeLow.query·for (h .0) (h .1 .0) (h .1 .1 .0)
+  node-low Row.query·let h = NodeLow.query·let (h .0) (h .1 .0) (h .1 .1 .0)
+  node-low Row.query·when h = NodeLow.query·when (h .0) (h .1 .0)
+  node-low Row.condition·true h = NodeLow.condition·true
+  node-low Row.condition·false h = NodeLow.condition·false
+  node-low Row.condition·equal h = NodeLow.condition·equal (h .0) (h .1 .0)
+  node-low Row.condition·empty h = NodeLow.condition·empty (h .0)
+  node-low Row.condition·or h = NodeLow.condition·or (h .0) (h .1 .0)
+  node-low Row.condition·not h = NodeLow.condition·not (h .0)
 
 -- what a record that is accepted has passed: 4, 5, 6 and 7
 record Passed (caps : Caps) (t : Tables) (section : Section) (ss : List Sort) (ws : List ℕ) : Type 0 where

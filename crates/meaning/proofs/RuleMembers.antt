@@ -1,23 +1,22 @@
 -- What the rules on types keep of the forests: quant counts the trees, prime has each tree, filter has the selection, content what stands inside.
 -- Filter's fact is shown once over the test word.
 -- Assumes nothing.
-use mathlib.Core.Path.{_≡_, refl, subst}
+use mathlib.Core.Path.{_≡_, refl}
 use mathlib.Core.Bool.{Bool, true, false, cond}
-use mathlib.Core.List.{List, [], _∷_, _++_}
-use Prim.Native.Nat.{ℕ, _+_}
+use Prim.Native.Nat.{ℕ}
 use native.Mathlib.Omega.{arith}
 use lib.Dec.{ltb, eqb}
 use lib.ListN.{length}
 use borrow.Author.Tests.{eqb-true}
-use Rattle.meaning.specs.Base.{Out, ok, refused, At}
+use Rattle.meaning.specs.Base.{ok, At}
 use Rattle.meaning.specs.Forests as Forests
 use Rattle.meaning.specs.Forests.{Forest, end, leaf, join, trees, select, keep, passes, Head, children}
 use Rattle.meaning.specs.Types as Types
 use Rattle.meaning.specs.Types.{Entry, Table, Defs}
 use Rattle.meaning.specs.Members.{Fits, Has}
-use Rattle.meaning.specs.Shapes.{Shape, empty, string, element, pair, union, star, plus, opt, name, shape, quant, isAtoms, maybe, more, any, none, many}
+use Rattle.meaning.specs.Shapes.{Shape, empty, string, element, pair, union, star, plus, opt, name, shape, quant, maybe, more, any, none, many}
 use Rattle.meaning.specs.Rules.{appendIf, append, prime, content, sift, filter}
-use Rattle.meaning.proofs.Lists.{never, at-one, at-last, Grows, grows-refl, grows-trans, grows-one, at-grows}
+use Rattle.meaning.proofs.Lists.{at-last, Grows, grows-refl, grows-trans, grows-one, at-grows}
 use Rattle.meaning.proofs.Ends.{Ends, gives, stops, Anyhow, ends-after, ends-map}
 use Rattle.meaning.proofs.Forests.{join-end, trees-join, select-join, select-all, Each, each-join, each-map}
 use Rattle.meaning.proofs.Members.{has, has-grows}

@@ -11,7 +11,7 @@ use borrow.Author.Tests.{leb-true, le-leb, ltb-true, lt-ltb}
 use Rattle.meaning.specs.Base.{Out, ok, _>>=_, require}
 use Rattle.meaning.specs.Forests.{Forest, end, leaf, tree, join, size, keep, select, children, below, over}
 use Rattle.meaning.specs.Queries as Queries
-use Rattle.meaning.specs.Queries.{Query, Cond}
+use Rattle.meaning.specs.Queries.{Query}
 use Rattle.meaning.specs.Running.{Env, valueOf, holds, meaningOf, written, forEach, eval}
 use Rattle.meaning.proofs.Ends.{Ends, gives, Any, Anyhow, ends-bind, ends-map, ends-require, Keeps, kept, keeps-bind, keeps-require, ends-elim}
 use Rattle.meaning.proofs.Nodes.{InQuery, everywhere}

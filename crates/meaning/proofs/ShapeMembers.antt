@@ -1,12 +1,12 @@
 -- The forests of a shape: a shape has what its entry has, both ways. What the rules on shapes need of a shape's leaves.
 -- Assumes nothing.
-use mathlib.Core.Path.{_≡_, refl, subst}
+use mathlib.Core.Path.{subst}
 use Prim.Native.Nat.{ℕ}
 use Rattle.meaning.specs.Base.{At}
 use Rattle.meaning.specs.Forests as Forests
 use Rattle.meaning.specs.Forests.{Forest, end, leaf, join}
 use Rattle.meaning.specs.Types as Types
-use Rattle.meaning.specs.Types.{Entry, Table, Defs}
+use Rattle.meaning.specs.Types.{Table, Defs}
 use Rattle.meaning.specs.Members.{Fits, Has}
 use Rattle.meaning.specs.Shapes.{Shape, empty, string, element, pair, union, star, plus, opt, name}
 use Rattle.meaning.proofs.Lists.{at-one, Grows, at-grows}

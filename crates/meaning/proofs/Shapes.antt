@@ -1,9 +1,9 @@
 -- `deepest` is deep enough: in a formed table an entry's shape is what `expand` makes of its parts' shapes, kind by kind, and is the shape that the
--- relation `Shaped` gives it. Entries appended change no shape.
+-- relation `Shaped` gives it. Entries appended change no shape. A name does its definition.
 -- Assumes nothing.
 use mathlib.Core.Path.{_≡_, refl, ap, ap₂, _∙_}
 use mathlib.Core.Bool.{false}
-use Prim.Native.Nat.{ℕ, zero, suc, _<_, _≤_}
+use Prim.Native.Nat.{ℕ, zero, suc, _<_}
 use native.Mathlib.Omega.{arith}
 use lib.ListN.{length, getD}
 use Rattle.meaning.specs.Base.{At, In, first, later}
@@ -11,7 +11,8 @@ use Rattle.meaning.specs.Types as Types
 use Rattle.meaning.specs.Types.{Entry, Table, Defs, at}
 use Rattle.meaning.specs.Reach.{stepsOf}
 use Rattle.meaning.specs.Formed.{Formed}
-use Rattle.meaning.specs.Shapes.{Shape, empty, string, element, pair, union, star, plus, opt, name, expand, shapeIn, shape, deepest}
+use Rattle.meaning.specs.Shapes.{Shape, empty, string, element, pair, union, star, plus, opt, name, expand, shapeIn, shape, deepest, quant}
+use Rattle.meaning.specs.Rules.{prime, sift}
 use Rattle.meaning.proofs.Lists.{at-low, at-getD, at-is, Grows, at-grows}
 use Rattle.meaning.proofs.Guard.{height, height-falls, height-most, steps-low, name-at}
 use Rattle.meaning.proofs.Shaped.{Shaped, is-empty, is-string, is-element, is-pair, is-union, is-star, is-plus, is-opt, is-name}
@@ -127,3 +128,17 @@ module _ {D : Defs} {T U : Table} (F : Formed D T) (G : Grows T U) where
   -- entries appended change no shape
   pub shape-grows : {e : ℕ} → e < length T → shape D U e ≡ shape D T e
   shape-grows {e} l = grows-in deepest e l
+
+-- "a name its definition's", "a name its definition", "a name does its definition": quant, prime and filter
+module _ {D : Defs} {T : Table} (F : Formed D T) {e d c : ℕ} (h : At T e (Types.name d)) (k : At D d c) where
+  pub quant-name : quant (shape D T e) ≡ quant (shape D T c)
+  unfolding quant
+  quant-name = ap quant (shape-name F h k)
+
+  pub prime-name : (room n : ℕ) → prime room n (shape D T e) ≡ prime room n (shape D T c)
+  unfolding prime
+  prime-name room n = ap (prime room n) (shape-name F h k)
+
+  pub filter-name : (room n w : ℕ) → sift room n w (shape D T e) ≡ sift room n w (shape D T c)
+  unfolding sift
+  filter-name room n w = ap (sift room n w) (shape-name F h k)

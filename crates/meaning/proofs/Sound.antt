@@ -1,14 +1,14 @@
 -- Soundness: whatever a query means in an environment that agrees with the scope is in the entry that typing answers. It is shown for every query
 -- under every scope, so for every subquery too.
 -- Assumes nothing.
-use mathlib.Core.Path.{_≡_, refl, ap, sym, _∙_, subst}
+use mathlib.Core.Path.{_≡_, subst}
 use mathlib.Core.Bool.{Bool, true, false}
-use mathlib.Core.List.{List, [], _∷_}
-use mathlib.Core.Option.{Option, none, some}
+use mathlib.Core.List.{_∷_}
+use mathlib.Core.Option.{some}
 use Prim.Native.Nat.{ℕ, _≤_, _<_}
 use lib.Dec.{eqb}
 use lib.ListN.{length}
-use Rattle.meaning.specs.Base.{Out, ok, refused, At, find, otherwise}
+use Rattle.meaning.specs.Base.{At, find, otherwise}
 use Rattle.meaning.specs.Forests.{Forest, end, keep, over, select, children}
 use Rattle.meaning.specs.Types as Types
 use Rattle.meaning.specs.Types.{Table, Defs}
@@ -21,7 +21,7 @@ use Rattle.meaning.specs.Queries.{Query}
 use Rattle.meaning.specs.Rules.{childRule}
 use Rattle.meaning.specs.Typing.{Scope, lookup, onlyTree, treeType, typeIn, State, Walk, typeCond, unbound, forRule, typeOf}
 use Rattle.meaning.specs.Running.{Env, valueOf, holds, meaningOf}
-use Rattle.meaning.proofs.Lists.{Grows, grows-refl, grows-trans, at-grows}
+use Rattle.meaning.proofs.Lists.{Grows, grows-refl, grows-trans}
 use Rattle.meaning.proofs.Ends.{Ends, gives, stops, Any, Anyhow, ends-bind, ends-after, ends-map, ends-by, ends-and, ends-given, ends-anyhow, ends-leaving, ends-from}
 use Rattle.meaning.proofs.Nodes.{everywhere}
 use Rattle.meaning.proofs.Labels.{Labels}

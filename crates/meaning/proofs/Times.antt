@@ -3,7 +3,6 @@
 use mathlib.Core.Path.{_≡_, refl}
 use Prim.Native.Nat.{ℕ, _≤_, _<_}
 use native.Mathlib.Omega.{arith}
-use Rattle.meaning.specs.Base.{At}
 use Rattle.meaning.specs.Forests.{Forest, end, leaf, tree, join, trees, over}
 use Rattle.meaning.specs.Types as Types
 use Rattle.meaning.specs.Types.{Table, Defs}
@@ -15,7 +14,7 @@ use Rattle.meaning.proofs.Ends.{Ends, gives, Anyhow, ends-map}
 use Rattle.meaning.proofs.Forests.{join-end, Each, trees-none}
 use Rattle.meaning.proofs.Members.{has, fits-grows}
 use Rattle.meaning.proofs.Classes.{Fitting}
-use Rattle.meaning.proofs.RuleMembers.{Appended, append-there}
+use Rattle.meaning.proofs.RuleMembers.{append-there}
 
 module _ (D : Defs) (T : Table) (u : ℕ) (body : Forest → Forest) where
   abbrev Bodies : Forest → Type 0

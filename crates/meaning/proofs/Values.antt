@@ -2,18 +2,18 @@
 -- what is loaded has the declared variables' values and fits the work table, and more room changes no answer.
 -- Assumes nothing.
 use mathlib.Core.Path.{_≡_, refl, ap, sym}
-use mathlib.Core.Bool.{Bool, true, false, not, _&&_, _||_}
+use mathlib.Core.Bool.{Bool, true, false, _&&_}
 use mathlib.Core.List.{List, [], _∷_, _++_, map}
 use mathlib.Core.Option.{Option, none, some}
 use Prim.Native.Nat.{ℕ, suc, zero, _+_, _*_, _-_, _^_, _≤_, _<_}
 use native.Mathlib.Omega.{arith}
 use lib.Dec.{leb, ltb, eqb}
-use lib.ListN.{length, getD, getElem?, length-append}
+use lib.ListN.{length, getD, length-append}
 use borrow.Author.Tests.{leb-true, leb-false, le-leb, ltb-true, ltb-false, eqb-true, not-false}
-use Rattle.meaning.specs.Base.{Out, require, refuseAt, find, At, In, first, later, concatMap, word}
+use Rattle.meaning.specs.Base.{Out, refuseAt, find, At, In, first, later, concatMap, word}
 use Rattle.meaning.specs.Kinds.{forest·text, forest·label, value·variable}
 use Rattle.meaning.specs.Records as Records
-use Rattle.meaning.specs.Records.{Section, Sort, Form, forms, hasSection, ownForm, formIn, Record, field, fieldsAt, lengthOf, recordAt, allFit, Var}
+use Rattle.meaning.specs.Records.{Section, Sort, Form, forms, hasSection, formIn, Record, field, fieldsAt, lengthOf, recordAt, allFit, Var}
 use Rattle.meaning.specs.Forests.{Forest, end, leaf, tree, size, trees}
 use Rattle.meaning.specs.Values.{as18, valueAt, Part, readForest, readValue, Value, readValues, isOdd, odd, entryPlaces, loadValues, joined}
 use Rattle.meaning.proofs.Lists.{absurd-option, never, both-true, in-cons, in-none, in-both, at-in, getD-has}

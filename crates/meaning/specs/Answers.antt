@@ -2,7 +2,6 @@
 -- Assumes nothing.
 use Prim.Native.Nat.{ℕ, _+_, _*_, _^_}
 use mathlib.Core.List.{List, [], _∷_, _++_}
-use mathlib.Core.Option.{Option, none, some}
 use lib.Dec.{leb}
 use lib.ListN.{length, drop}
 use Rattle.meaning.specs.Base.{Out, ok, refused, _>>=_, require, given, concatMap, bytesOf, lent, Caps}
@@ -10,7 +9,7 @@ use Rattle.meaning.specs.Kinds.{record·definition, record·result}
 use Rattle.meaning.specs.Types.{Entry, Table, Defs, kindOf, fieldsOf}
 use Rattle.meaning.specs.Records.{Tables, answer, readRecords}
 use Rattle.meaning.specs.Checks.{checkTypes}
-use Rattle.meaning.specs.Typing.{Typed, typeJob, typedTypes, typedCode}
+use Rattle.meaning.specs.Typing.{Typed, typeJob}
 
 -- "length of the whole record in bytes, kind, fields. Length is 4 + 2 per field."
 abbrev pub recordOf : ℕ → List ℕ → List ℕ

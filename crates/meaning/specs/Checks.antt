@@ -1,13 +1,13 @@
 -- The checks of the whole: 8 | 9 and 10, over types and definitions alone | 11 | 12; and reading a job, 1 to 12.
 -- Assumes nothing.
-use Prim.Native.Nat.{ℕ, zero, suc, _-_}
+use Prim.Native.Nat.{ℕ, _-_}
 use mathlib.Core.Bool.{Bool, true, false, not, _&&_}
-use mathlib.Core.List.{List, [], _∷_, _++_}
+use mathlib.Core.List.{List, [], _∷_}
 use mathlib.Core.Option.{Option, none, some}
 use lib.Dec.{leb, ltb, eqb}
 use lib.ListN.{length}
-use Rattle.meaning.specs.Base.{Out, ok, refused, _>>=_, require, refuseAt, find, lowest, count, concatMap, Caps}
-use Rattle.meaning.specs.Types.{Entry, Table, Defs, at, nameOf}
+use Rattle.meaning.specs.Base.{Out, ok, _>>=_, require, refuseAt, find, lowest, count, concatMap, Caps}
+use Rattle.meaning.specs.Types.{Table, Defs, at, nameOf}
 use Rattle.meaning.specs.Reach.{loops}
 use Rattle.meaning.specs.Shapes.{shape, isAtoms}
 use Rattle.meaning.specs.Records.{Sort, label, entryNo, defNo, varNo, anyWord, queryNo, condNo, Form, forms, job, Var, tree, forest, Node, nodeAt, isCondition, Tables, readRecords}

@@ -1,12 +1,16 @@
--- The one well-formedness of a type table with its definitions: reading and refusals 9 and 10 guarantee it, typing keeps it.
+-- The one well-formedness of a type table with its definitions: reading and refusals 9 and 10 guarantee it, typing keeps it. And that of query
+-- nodes, which reading guarantees.
 -- Assumes nothing.
 use mathlib.Core.Path.{_≡_}
-use mathlib.Core.Bool.{false}
+use mathlib.Core.Bool.{Bool, true, false}
+use mathlib.Core.List.{List}
 use Prim.Native.Nat.{ℕ, _≤_, _<_}
 use lib.ListN.{length}
 use Rattle.meaning.specs.Base.{At}
 use Rattle.meaning.specs.Types.{Entry, Table, Defs}
 use Rattle.meaning.specs.Reach.{Path}
+use Rattle.meaning.specs.Kinds
+use Rattle.meaning.specs.Records.{Node, node, nodeAt, isCondition}
 
 -- "Children have lower numbers", "labels 1 to 65,534", definition numbers at most 63: an entry as a record may give it when n stand before it
 pub data Lower (n : ℕ) : Entry → Type 0 where
@@ -32,3 +36,27 @@ pub record Formed (D : Defs) (T : Table) : Type 0 where
   pub defined : (d c : ℕ) → At D d c → c < length T
   pub named : (e d : ℕ) → At T e (Entry.name d) → d < length D
   pub guarded : Guarded D T
+
+-- "reference .. to a lower .. entry of the right sort": w names a node before node n, a condition or not
+pub record Names (code : List Node) (n : ℕ) (condition : Bool) (w : ℕ) : Type 0 where
+  pub low : w < n
+  pub sort : isCondition (nodeAt code w .kind) ≡ condition
+
+-- a query node as a record may give it when n stand before it: what it names stands before it and is of the right sort; unused words are 0
+pub data NodeLow (code : List Node) (n : ℕ) : Node → Type 0 where
+  query·empty : NodeLow code n (node Kinds.query·empty 0 0 0)
+  query·text : {t : ℕ} → NodeLow code n (node Kinds.query·text t 0 0)
+  query·element : {l q : ℕ} → 1 ≤ l → l ≤ 65534 → Names code n false q → NodeLow code n (node Kinds.query·element l q 0)
+  query·pair : {p q : ℕ} → Names code n false p → Names code n false q → NodeLow code n (node Kinds.query·pair p q 0)
+  query·variable : {v : ℕ} → v ≤ 63 → NodeLow code n (node Kinds.query·variable v 0 0)
+  query·child : {v w : ℕ} → v ≤ 63 → NodeLow code n (node Kinds.query·child v w 0)
+  query·dos : {v w : ℕ} → v ≤ 63 → NodeLow code n (node Kinds.query·dos v w 0)
+  query·for : {v p q : ℕ} → v ≤ 63 → Names code n false p → Names code n false q → NodeLow code n (node Kinds.query·for v p q)
+  query·let : {v p q : ℕ} → v ≤ 63 → Names code n false p → Names code n false q → NodeLow code n (node Kinds.query·let v p q)
+  query·when : {p q : ℕ} → Names code n true p → Names code n false q → NodeLow code n (node Kinds.query·when p q 0)
+  condition·true : NodeLow code n (node Kinds.condition·true 0 0 0)
+  condition·false : NodeLow code n (node Kinds.condition·false 0 0 0)
+  condition·equal : {v w : ℕ} → v ≤ 63 → w ≤ 63 → NodeLow code n (node Kinds.condition·equal v w 0)
+  condition·empty : {v : ℕ} → v ≤ 63 → NodeLow code n (node Kinds.condition·empty v 0 0)
+  condition·or : {p q : ℕ} → Names code n true p → Names code n true q → NodeLow code n (node Kinds.condition·or p q 0)
+  condition·not : {p : ℕ} → Names code n true p → NodeLow code n (node Kinds.condition·not p 0 0)

@@ -5,9 +5,9 @@ pub mod Forests
 pub mod Types
 pub mod Members
 pub mod Reach
-pub mod Formed
 pub mod Shapes
 pub mod Records
+pub mod Formed
 pub mod Checks
 pub mod Queries
 pub mod Rules

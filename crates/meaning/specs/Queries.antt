@@ -2,7 +2,6 @@
 -- Assumes nothing.
 use Prim.Native.Nat.{ℕ, zero, suc}
 use mathlib.Core.List.{List, [], _∷_}
-use mathlib.Core.Option.{Option, none, some}
 use lib.ListN.{length}
 use Rattle.meaning.specs.Base.{find, otherwise}
 use Rattle.meaning.specs.Kinds

@@ -4,10 +4,10 @@ use Prim.Native.Nat.{ℕ, _*_}
 use mathlib.Core.List.{List, [], _∷_, _++_}
 use Rattle.meaning.specs.Base.{ok, refused, _>>=_, forestWidth}
 use Rattle.meaning.specs.Forests.{size}
-use Rattle.meaning.specs.Types.{element, pair, union, star, opt, base}
+use Rattle.meaning.specs.Types.{element, pair, star, opt, base}
 use Rattle.meaning.specs.Shapes.{more, shape, quant}
 use Rattle.meaning.specs.Answers.{full}
-use Rattle.meaning.specs.Running.{Ran, runJob, workWords}
+use Rattle.meaning.specs.Running.{runJob, workWords}
 use Rattle.meaning.specs.Worked.{Shown, Row, row, showClass, showTable, typed, jobOf, defJob}
 
 -- a run in a work table of so many entries: the first entry and the length of the result, and the work table

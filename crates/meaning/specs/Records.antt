@@ -6,7 +6,7 @@ use mathlib.Core.List.{List, [], _∷_, _++_}
 use mathlib.Core.Option.{Option, none, some}
 use lib.Dec.{leb, ltb, eqb}
 use lib.ListN.{length, getD}
-use Rattle.meaning.specs.Base.{Out, ok, refused, _>>=_, require, given, find, isSome, word, Caps}
+use Rattle.meaning.specs.Base.{Out, ok, _>>=_, require, given, find, isSome, word, Caps}
 use Rattle.meaning.specs.Kinds
 use Rattle.meaning.specs.Types.{Table, Defs, entryOf, base}
 

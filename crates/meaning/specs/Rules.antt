@@ -6,7 +6,7 @@ use mathlib.Core.List.{List, [], _∷_, _++_}
 use lib.Dec.{ltb, eqb}
 use lib.ListN.{length}
 use Rattle.meaning.specs.Base.{Out, ok, refused}
-use Rattle.meaning.specs.Forests.{Head, text, label, passes}
+use Rattle.meaning.specs.Forests.{text, label, passes}
 use Rattle.meaning.specs.Types as Types
 use Rattle.meaning.specs.Types.{Entry, Table, Defs}
 use Rattle.meaning.specs.Reach.{atomsBelow}

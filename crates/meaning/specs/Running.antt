@@ -1,10 +1,10 @@
 -- Running: what a query means (S figures 4 and 6), its evaluation in a work table with room (21), and a run, 1 to 16 and 18 to 21.
 -- Assumes nothing.
-use Prim.Native.Nat.{ℕ, zero, suc, _+_}
+use Prim.Native.Nat.{ℕ, _+_}
 use mathlib.Core.Bool.{Bool, true, false, not, _||_}
-use mathlib.Core.List.{List, [], _∷_, _++_, map}
+use mathlib.Core.List.{List, _∷_, _++_, map}
 use lib.Dec.{leb, ltb, eqb}
-use Rattle.meaning.specs.Base.{Out, ok, refused, _>>=_, require, find, otherwise, lent, Caps}
+use Rattle.meaning.specs.Base.{Out, ok, _>>=_, require, find, otherwise, lent, Caps}
 use Rattle.meaning.specs.Forests.{Forest, end, leaf, tree, join, size, forestWords, same, keep, select, children, below, over}
 use Rattle.meaning.specs.Queries as Queries
 use Rattle.meaning.specs.Queries.{Query, Cond}

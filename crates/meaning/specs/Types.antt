@@ -1,7 +1,7 @@
 -- Type tables: the entries by their kinds, their words, and what a table has at a number.
 -- Assumes nothing.
 use Prim.Native.Nat.{ℕ}
-use mathlib.Core.List.{List, [], _∷_, _++_}
+use mathlib.Core.List.{List, [], _∷_}
 use mathlib.Core.Option.{Option, none, some}
 use lib.ListN.{getD}
 use Rattle.meaning.specs.Base.{find, otherwise, concatMap, padded, typeWidth}

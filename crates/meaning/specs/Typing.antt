@@ -1,16 +1,15 @@
 -- Typing: scope, conditions, and the walk from the root with refusals 13 to 16 (S figures 9 and 10); typing a job, 1 to 16.
 -- Assumes nothing.
-use Prim.Native.Nat.{ℕ, zero, suc, _-_}
-use mathlib.Core.Bool.{Bool, true, false, not}
-use mathlib.Core.List.{List, [], _∷_}
-use mathlib.Core.Option.{Option, none, some}
+use Prim.Native.Nat.{ℕ, _-_}
+use mathlib.Core.Bool.{not}
+use mathlib.Core.List.{List, _∷_}
 use lib.ListN.{length}
 use Rattle.meaning.specs.Base as Base
 use Rattle.meaning.specs.Base.{Out, ok, refused, require, given, find, isSome, concatMap, lent, Caps}
 use Rattle.meaning.specs.Types as Types
 use Rattle.meaning.specs.Types.{Table, Defs, tableWords}
 use Rattle.meaning.specs.Shapes.{shape, quant}
-use Rattle.meaning.specs.Records.{Var, tree, forest, Node, nodeWords, Tables}
+use Rattle.meaning.specs.Records.{Var, tree, forest, nodeWords, Tables}
 use Rattle.meaning.specs.Checks.{readJob}
 use Rattle.meaning.specs.Queries as Queries
 use Rattle.meaning.specs.Queries.{Query, Cond, queryAt}

@@ -7,10 +7,10 @@ use lib.Dec.{eqb}
 use lib.ListN.{length, take}
 use Rattle.meaning.specs.Base.{Out, ok, refused, _>>=_, concatMap}
 use Rattle.meaning.specs.Forests.{sameWords}
-use Rattle.meaning.specs.Types.{Entry, empty, element, pair, union, star, plus, opt, name, Table, base, tableWords}
+use Rattle.meaning.specs.Types.{Entry, element, pair, union, star, plus, opt, name, Table, base, tableWords}
 use Rattle.meaning.specs.Shapes.{Class, one, maybe, more, any, shape, quant}
-use Rattle.meaning.specs.Typing.{Typed, typeJob}
-use Rattle.meaning.specs.Answers.{recordOf, full, Answered, answerJob}
+use Rattle.meaning.specs.Typing.{typeJob}
+use Rattle.meaning.specs.Answers.{recordOf, full, answerJob}
 
 -- what a row shows: numbers, or a refusal
 abbrev pub Shown : Type 0
