@@ -13,18 +13,18 @@ use Rattle.meaning.specs.Base.{find, lowest, count, At, Caps}
 use Rattle.meaning.specs.Types as Types
 use Rattle.meaning.specs.Types.{Entry, Table, Defs, nameOf}
 use Rattle.meaning.specs.Reach.{loops}
-use Rattle.meaning.specs.Formed.{Formed, NodeLow}
+use Rattle.meaning.specs.Formed.{Formed, NodeLow, TypesRead, DefsRead, VarsRead}
 use Rattle.meaning.specs.Shapes.{shape, isAtoms}
 use Rattle.meaning.specs.Records as Records
 use Rattle.meaning.specs.Records.{Var, Node, nodeAt, isCondition, Tables}
 use Rattle.meaning.specs.Checks.{hasRoot, checkRoot, isUndefined, undefinedName, checkTypes, isTangled, tangled, checkVars, uses, misused, checkUses, checkJob, readJob}
-use Rattle.meaning.specs.Typing.{typeIn}
+use Rattle.meaning.specs.Records.{typeIn}
 use Rattle.meaning.specs.Answers.{readAnswer}
 use Rattle.meaning.proofs.Lists.{absurd-option, both-true, at-low, at-getD}
 use Rattle.meaning.proofs.Ends.{Ends, gives, ends-bind, ends-map, ends-by, ends-require, ends-given, ends-refuseAt}
 use Rattle.meaning.proofs.Searches.{lowest-none, lowest-at}
 use Rattle.meaning.proofs.Finding.{find-at}
-use Rattle.meaning.proofs.Reading.{Small, TypesRead, DefsRead, VarsRead, weight-bound, reads}
+use Rattle.meaning.proofs.Reading.{Small, weight-bound, reads}
 use Rattle.meaning.proofs.Guard.{unlooped-guarded}
 
 -- an accepted job's tables

@@ -22,7 +22,8 @@ use Rattle.meaning.specs.Records.{Var, tree, forest}
 use Rattle.meaning.specs.Queries as Queries
 use Rattle.meaning.specs.Queries.{Query, Cond}
 use Rattle.meaning.specs.Rules.{after, Rule, appendIf, append, prime, content, sift, filter, childRule, times, unions, starOf, dosRule}
-use Rattle.meaning.specs.Typing.{Scope, lookup, unbound, onlyTree, typeIn, treeType, State, Walk, leaving, typeCond, forRule, typeOf}
+use Rattle.meaning.specs.Records.{typeIn}
+use Rattle.meaning.specs.Typing.{Scope, lookup, unbound, onlyTree, treeType, State, Walk, leaving, typeCond, forRule, typeOf}
 use Rattle.meaning.proofs.Lists.{absurd-option, at-low, at-getD, at-is, at-one, at-append, at-old, Grows, grows-refl, grows-trans, grows-one, grows-length, at-grows}
 use Rattle.meaning.proofs.Ends.{Ends, gives, stops, Any, ends-bind, ends-after, ends-map, ends-by, ends-require, ends-given, ends-leaving, ends-from}
 use Rattle.meaning.proofs.Nodes.{InCond, InQuery}

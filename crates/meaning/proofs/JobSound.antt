@@ -11,7 +11,8 @@ use Rattle.meaning.specs.Base.{ok, In, first, later, find, otherwise, Ca
 use Rattle.meaning.specs.Forests.{Forest, end}
 use Rattle.meaning.specs.Types.{Table, Defs}
 use Rattle.meaning.specs.Members.{Has}
-use Rattle.meaning.specs.Typing.{Typed, typeIn, typeJob, root}
+use Rattle.meaning.specs.Records.{typeIn}
+use Rattle.meaning.specs.Typing.{Typed, typeJob, root}
 use Rattle.meaning.specs.Values.{Value, loadValues}
 use Rattle.meaning.specs.Running.{Env, valueOf, meaningOf, eval, envOf, runJob}
 use Rattle.meaning.proofs.Lists.{absurd-option}

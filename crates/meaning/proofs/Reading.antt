@@ -13,10 +13,10 @@ use Rattle.meaning.specs.Base.{Out, ok, refused, _>>=_, find, isSome, At
 use Rattle.meaning.specs.Kinds
 use Rattle.meaning.specs.Types as Types
 use Rattle.meaning.specs.Types.{Entry, Table, Defs, entryOf}
-use Rattle.meaning.specs.Formed.{Lower, Names, NodeLow}
+use Rattle.meaning.specs.Formed.{Lower, Names, NodeLow, TypesRead, DefsRead, VarsRead, CodeRead}
 use Rattle.meaning.specs.Records as Records
 use Rattle.meaning.specs.Records.{Section, Sort, forms, File, hasSection, formIn, order, Record, field, fieldsAt, lengthOf, recordAt, Var, varOf, Node, node, Tables, fresh, inOrder, hasRoom, isCondition, allFit, declaredAgain, put, readRecord, readFrom, readRecords}
-use Rattle.meaning.specs.Typing.{typeIn}
+use Rattle.meaning.specs.Records.{typeIn}
 use Rattle.meaning.proofs.Lists.{absurd-option, never, both-true, at-append, at-old, at-low}
 use Rattle.meaning.proofs.Ends.{Ends, gives, ends-bind, ends-by, ends-require, ends-test, ends-given}
 use Rattle.meaning.proofs.Finding.{find-absent}
@@ -53,28 +53,6 @@ module _ {code : List Node} {n : ℕ} (more : List Node) (low : n ≤ length cod
   low-grow (NodeLow.condition·empty v) = NodeLow.condition·empty v
   low-grow (NodeLow.condition·or p q) = NodeLow.condition·or (names-grow p) (names-grow q)
   low-grow (NodeLow.condition·not p) = NodeLow.condition·not (names-grow p)
-
--- THE INVARIANT, table by table: with room for so many entries, and with n type entries
-pub record TypesRead (room : ℕ) (T : Table) : Type 0 where
-  pub two : 2 ≤ length T
-  pub fits : length T ≤ room
-  pub zeroth : At T 0 Types.empty
-  pub first : At T 1 Types.string
-  pub lower : (e : ℕ) (x : Entry) → 2 ≤ e → At T e x → Lower e x
-
-pub record DefsRead (n : ℕ) (D : Defs) : Type 0 where
-  pub few : length D ≤ 64
-  pub defined : (d c : ℕ) → At D d c → c < n
-
-pub record VarsRead (n : ℕ) (vars : List (ℕ × Var)) : Type 0 where
-  pub few : length vars ≤ 16
-  pub low : (i v : ℕ) (x : Var) → At vars i (v, x) → v ≤ 63
-  pub scoped : (i v : ℕ) (x : Var) → At vars i (v, x) → typeIn x < n
-  pub once : (i j v : ℕ) (x y : Var) → At vars i (v, x) → At vars j (v, y) → i ≡ j
-
-pub record CodeRead (room : ℕ) (code : List Node) : Type 0 where
-  pub few : length code ≤ room
-  pub nodes : (n : ℕ) (x : Node) → At code n x → NodeLow code n x
 
 -- the most bytes that the records behind these tables can have
 abbrev pub ended : Option ℕ → ℕ

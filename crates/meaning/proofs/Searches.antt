@@ -1,11 +1,11 @@
 -- Searches: the lowest number that passes a test is the lowest, and there is none only if none passes; those that pass are kept, in order.
 -- Assumes nothing.
-use mathlib.Core.Path.{_≡_, refl, ap, sym, _∙_}
+use mathlib.Core.Path.{_≡_, refl, ap, ap₂, sym, _∙_}
 use mathlib.Core.Logic.{_↔_}
 use mathlib.Core.Bool.{Bool, true, false}
 use mathlib.Core.List.{List, [], _∷_}
 use mathlib.Core.Option.{Option, none, some}
-use Prim.Native.Nat.{ℕ, zero, suc, _+_, _≤_, _<_}
+use Prim.Native.Nat.{ℕ, zero, suc, _+_, _-_, _≤_, _<_}
 use native.Mathlib.Omega.{arith}
 use native.Mathlib.Decide.{ℕ-discrete}
 use Rattle.meaning.specs.Base.{In, first, later, isSome, lowestFrom, lowest, keptFrom}
@@ -118,3 +118,37 @@ kept-increasing f i (suc n) = go (f i) (kept-increasing f (suc i) n)
     go : (b : Bool) → Increasing (keptFrom f (suc i) n) → Increasing (elim b [ true ↦ i ∷ keptFrom f (suc i) n | false ↦ keptFrom f (suc i) n ])
     go true r = kept-above f i n
     go false r = r
+
+-- SEEKING: a search that has come to i without finding goes on as from the start
+module _ (f : ℕ → Bool) (n : ℕ) where
+  pub record Seeking (i : ℕ) : Type 0 where
+    pub to : i ≤ n
+    pub rest : lowestFrom f i (n - i) ≡ lowest f n
+
+  left : (i : ℕ) → i < n → n - i ≡ suc (n - (i + 1))
+  left i h = omega arith
+
+  pub seeking-none : Seeking 0
+  seeking-none = record { to = omega arith; rest = ap (lowestFrom f 0) {x = n - 0} {y = n} (omega arith) }
+
+  pub seeking-more : {i : ℕ} → Seeking i → i < n → f i ≡ false → Seeking (i + 1)
+  unfolding lowestFrom
+  seeking-more {i} s h e =
+      let next : suc i ≡ i + 1 = omega arith in
+      record { to = omega arith; rest = sym (simp (left i h, e, lowestFrom, next)) ∙ s .rest }
+
+  pub seeking-here : {i : ℕ} → Seeking i → i < n → f i ≡ true → some i ≡ lowest f n
+  unfolding lowestFrom
+  seeking-here {i} s h e = sym (simp (left i h, e, lowestFrom)) ∙ s .rest
+
+  pub seeking-all : {i : ℕ} → Seeking i → n ≤ i → none ≡ lowest f n
+  unfolding lowestFrom
+  seeking-all {i} s h = let over : n - i ≡ 0 = omega arith in sym (rw (over, lowestFrom)) ∙ s .rest
+
+-- tests that agree find the same
+pub lowest-same : (f g : ℕ → Bool) (i n : ℕ) → ((x : ℕ) → i ≤ x → x < i + n → f x ≡ g x) → lowestFrom f i n ≡ lowestFrom g i n
+unfolding lowestFrom
+lowest-same f g i zero h = refl
+lowest-same f g i (suc n) h =
+    ap₂ (λ (b : Bool) (o : Option ℕ). elim b as (λ _. Option ℕ) [ true ↦ some i | false ↦ o ]) (h i (omega arith) (omega arith))
+    (lowest-same f g (suc i) n (λ x l m. h x (omega arith) (omega arith)))

@@ -19,7 +19,8 @@ use Rattle.meaning.specs.Records.{Var, tree, forest}
 use Rattle.meaning.specs.Queries as Queries
 use Rattle.meaning.specs.Queries.{Query}
 use Rattle.meaning.specs.Rules.{childRule}
-use Rattle.meaning.specs.Typing.{Scope, lookup, onlyTree, treeType, typeIn, State, Walk, typeCond, unbound, forRule, typeOf}
+use Rattle.meaning.specs.Records.{typeIn}
+use Rattle.meaning.specs.Typing.{Scope, lookup, onlyTree, treeType, State, Walk, typeCond, unbound, forRule, typeOf}
 use Rattle.meaning.specs.Running.{Env, valueOf, holds, meaningOf}
 use Rattle.meaning.proofs.Lists.{Grows, grows-refl, grows-trans}
 use Rattle.meaning.proofs.Ends.{Ends, gives, stops, Any, Anyhow, ends-bind, ends-after, ends-map, ends-by, ends-and, ends-given, ends-anyhow, ends-leaving, ends-from}

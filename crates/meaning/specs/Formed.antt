@@ -10,7 +10,7 @@ use Rattle.meaning.specs.Base.{At}
 use Rattle.meaning.specs.Types.{Entry, Table, Defs}
 use Rattle.meaning.specs.Reach.{Path}
 use Rattle.meaning.specs.Kinds
-use Rattle.meaning.specs.Records.{Node, node, nodeAt, isCondition}
+use Rattle.meaning.specs.Records.{Var, typeIn, Node, node, nodeAt, isCondition}
 
 -- "Children have lower numbers", "labels 1 to 65,534", definition numbers at most 63: an entry as a record may give it when n stand before it
 pub data Lower (n : ℕ) : Entry → Type 0 where
@@ -60,3 +60,25 @@ pub data NodeLow (code : List Node) (n : ℕ) : Node → Type 0 where
   condition·empty : {v : ℕ} → v ≤ 63 → NodeLow code n (node Kinds.condition·empty v 0 0)
   condition·or : {p q : ℕ} → Names code n true p → Names code n true q → NodeLow code n (node Kinds.condition·or p q 0)
   condition·not : {p : ℕ} → Names code n true p → NodeLow code n (node Kinds.condition·not p 0 0)
+
+-- WHAT READING LEAVES, table by table, before the checks: with room for so many entries, and with n type entries
+pub record TypesRead (room : ℕ) (T : Table) : Type 0 where
+  pub two : 2 ≤ length T
+  pub fits : length T ≤ room
+  pub zeroth : At T 0 Entry.empty
+  pub first : At T 1 Entry.string
+  pub lower : (e : ℕ) (x : Entry) → 2 ≤ e → At T e x → Lower e x
+
+pub record DefsRead (n : ℕ) (D : Defs) : Type 0 where
+  pub few : length D ≤ 64
+  pub defined : (d c : ℕ) → At D d c → c < n
+
+pub record VarsRead (n : ℕ) (vars : List (ℕ × Var)) : Type 0 where
+  pub few : length vars ≤ 16
+  pub low : (i v : ℕ) (x : Var) → At vars i (v, x) → v ≤ 63
+  pub scoped : (i v : ℕ) (x : Var) → At vars i (v, x) → typeIn x < n
+  pub once : (i j v : ℕ) (x y : Var) → At vars i (v, x) → At vars j (v, y) → i ≡ j
+
+pub record CodeRead (room : ℕ) (code : List Node) : Type 0 where
+  pub few : length code ≤ room
+  pub nodes : (n : ℕ) (x : Node) → At code n x → NodeLow code n x

@@ -118,6 +118,10 @@ recordAt file s at = do
 pub data Var : Type 0 where
   tree forest : ℕ → Var
 
+abbrev pub typeIn : Var → ℕ
+typeIn (tree e) = e
+typeIn (forest e) = e
+
 abbrev pub varOf : ℕ → ℕ → Var
 varOf kind e = elim (eqb kind Kinds.record·tree) [ true ↦ tree e | false ↦ forest e ]
 

@@ -9,7 +9,7 @@ use Rattle.meaning.specs.Base.{Out, ok, refused, require, given, find, i
 use Rattle.meaning.specs.Types as Types
 use Rattle.meaning.specs.Types.{Table, Defs, tableWords}
 use Rattle.meaning.specs.Shapes.{shape, quant}
-use Rattle.meaning.specs.Records.{Var, tree, forest, nodeWords, Tables}
+use Rattle.meaning.specs.Records.{Var, tree, forest, typeIn, nodeWords, Tables}
 use Rattle.meaning.specs.Checks.{readJob}
 use Rattle.meaning.specs.Queries as Queries
 use Rattle.meaning.specs.Queries.{Query, Cond, queryAt}
@@ -31,10 +31,6 @@ unbound n g v = require (not (isSome (find v g))) 14 n
 abbrev pub onlyTree : ℕ → Var → Out ℕ
 onlyTree n (tree e) = ok e
 onlyTree n (forest e) = refused 15 n
-
-abbrev pub typeIn : Var → ℕ
-typeIn (tree e) = e
-typeIn (forest e) = e
 
 -- the type of a tree variable: 13, then 15
 abbrev pub treeType : ℕ → Scope → ℕ → Out ℕ
