@@ -1,15 +1,15 @@
 -- The operations whole: which refusals each gives, with every place below 2^32; more capacity changes no accepted answer; and what an accepted
 -- typing is.
 -- Assumes nothing.
-use mathlib.Core.Path.{_≡_, refl}
+use mathlib.Core.Path.{_≡_, refl, ap}
 use mathlib.Core.Bool.{true}
 use mathlib.Core.List.{List}
 use Prim.Native.Nat.{ℕ, _-_, _^_, _≤_, _<_}
 use native.Mathlib.Omega.{arith}
 use lib.Dec.{leb}
-use lib.ListN.{length}
+use lib.ListN.{length, take}
 use borrow.Author.Tests.{leb-true, le-leb}
-use Rattle.meaning.specs.Base.{Out, ok, refused, Caps}
+use Rattle.meaning.specs.Base.{Out, ok, refused, _>>=_, Caps}
 use Rattle.meaning.specs.Shapes.{Shape, empty, string, element, pair, union, star, plus, opt, name, shape, isAtoms}
 use Rattle.meaning.specs.Records.{tree, forest, Tables}
 use Rattle.meaning.specs.Checks.{readJob}
@@ -25,6 +25,7 @@ use Rattle.meaning.proofs.Reading.{Small}
 use Rattle.meaning.proofs.Accepting.{Accepted, accepts, back-accepts}
 use Rattle.meaning.proofs.Codes.{query-nodes, query-labels}
 use Rattle.meaning.proofs.Larger.{read-keeps}
+use Rattle.meaning.proofs.Prefix.{prefix-job}
 use Rattle.meaning.proofs.FileLength.{file-short}
 use Rattle.meaning.proofs.Grow.{Grown, type-ends}
 use Rattle.meaning.proofs.Roomier.{type-keeps}
@@ -144,3 +145,8 @@ module _ (caps more : Caps) (types : caps .types ≤ more .types) (code : caps .
   unfolding runJob
   running-keeps room wide s values l =
       keeps-bind (typing-keeps s) λ t. keeps-bind (load-keeps (t .job .vars) values l) λ vs. keeps-bind (eval-keeps l (root (t .job)) _ _) λ f. kept
+
+-- A LONGER JOB is typed as its first 43,520 bytes are
+pub prefix-typing : {caps : Caps} → Small caps → (n : ℕ) → 43520 ≤ n → (s : List ℕ) → typeJob caps (take n s) ≡ typeJob caps s
+unfolding typeJob
+prefix-typing {caps} small n far s = ap (λ (o : Out Tables). o >>= λ t. typeTables (caps .types) t) (prefix-job small n far s)

@@ -17,6 +17,7 @@ pub mod Reading
 pub mod Accepting
 pub mod Codes
 pub mod Larger
+pub mod Prefix
 pub mod FileLength
 pub mod Grow
 pub mod Roomier

@@ -323,6 +323,23 @@ pub record Through (caps : Caps) (s : List ℕ) (t : Tables) : Type 0 where
 abbrev pub Stopped : File → ℕ → ℕ → Type 0
 Stopped file n p = (1 ≤ n) × (n ≤ last file) × (p ≤ 43510)
 
+-- where reading begins
+pub fresh-reads : {caps : Caps} → 2 ≤ caps .types → Read caps 0 fresh
+fresh-reads l =
+    record {
+      types = record { two = omega arith; fits = l; zeroth = record { is = refl }; first = record { is = refl }; lower = λ e x k p. absurd (omega (arith, at-low p)) };
+      defs = record { few = omega arith; defined = λ d c p. absurd (omega (arith, at-low p)) };
+      vars = record {
+        few = omega arith;
+        low = λ i v x p. absurd (omega (arith, at-low p));
+        scoped = λ i v x p. absurd (omega (arith, at-low p));
+        once = λ i j v x y p q. absurd (omega (arith, at-low p));
+      };
+      code = record { few = omega arith; nodes = λ n x p. absurd (omega (arith, at-low p)) };
+      result = λ e p. absurd-option p;
+      weighs = omega arith;
+    }
+
 module _ {caps : Caps} (file : File) (s : List ℕ) (no-value : hasSection file Records.value ≡ false) (small : Small caps) where
   step-reads : (k at : ℕ) (t : Tables) (c : Bool) → ltb at (length s) ≡ c → Read caps at t
       → ((r : Tables × ℕ) → Read caps (r .1) (r .0) → at + 4 ≤ r .1 → Ends (Through caps s) (Stopped file) (readFrom k file caps s (r .1) (r .0)))
@@ -335,22 +352,6 @@ module _ {caps : Caps} (file : File) (s : List ℕ) (no-value : hasSection file 
   unfolding readFrom
   from-reads zero at t h l = gives (record { at = at; read = h; all = omega arith })
   from-reads (suc k) at t h l = step-reads k at t (ltb at (length s)) refl h (λ r q m. from-reads k (r .1) (r .0) q (omega arith))
-
-  fresh-reads : 2 ≤ caps .types → Read caps 0 fresh
-  fresh-reads l =
-      record {
-        types = record { two = omega arith; fits = l; zeroth = record { is = refl }; first = record { is = refl }; lower = λ e x k p. absurd (omega (arith, at-low p)) };
-        defs = record { few = omega arith; defined = λ d c p. absurd (omega (arith, at-low p)) };
-        vars = record {
-          few = omega arith;
-          low = λ i v x p. absurd (omega (arith, at-low p));
-          scoped = λ i v x p. absurd (omega (arith, at-low p));
-          once = λ i j v x y p q. absurd (omega (arith, at-low p));
-        };
-        code = record { few = omega arith; nodes = λ n x p. absurd (omega (arith, at-low p)) };
-        result = λ e p. absurd-option p;
-        weighs = omega arith;
-      }
 
   pub reads : Ends (Through caps s) (Stopped file) (readRecords file caps s)
   unfolding readRecords

@@ -1,3 +1,5 @@
+-- `words::copy` meets its contract.
+-- Assumes nothing.
 use Prim.Native.Nat.{_-_}
 use mathlib.Core.Path.{refl}
 use lib.ListN.{length, length-set}
@@ -6,8 +8,6 @@ use borrow.Author.Needs.{needs}
 use Rattle.words.proofs.Stores.{Copied, copied-more, copied-all}
 use Rattle.words.proofs.copy.Statement.{statement}
 use Rattle.words.proofs.copy.Tie as tie
-use Rattle.words.proofs.copy.Reads as reads
-use Rattle.words.proofs.copy.Lts as lts
 
 abbrev Inv-loop : tie.InvT-loop
 Inv-loop from to₀ i₀ to i = Copied from to₀ i to
@@ -15,43 +15,33 @@ Inv-loop from to₀ i₀ to i = Copied from to₀ i to
 abbrev μ-loop : tie.MeasureT-loop
 μ-loop from to₀ i₀ to i = length from - i
 
--- src/lib.rt:174:5
 loop-holds : tie.Need-loop-holds Inv-loop μ-loop
 loop-holds c = (search needs, refl, paste-zero _ 0 (c .args .from .now))
 
--- src/lib.rt:175:17
 mul-to : tie.Need-mul-to Inv-loop μ-loop
 mul-to c = search needs
 
--- src/lib.rt:175:17
 shared-slice-read-to : tie.Need-shared-slice-read-to Inv-loop μ-loop
 shared-slice-read-to c = search needs
 
--- src/lib.rt:175:9
 mul-to-2 : tie.Need-mul-to-2 Inv-loop μ-loop
 mul-to-2 c = search needs
 
--- src/lib.rt:175:9
 slice-write-to : tie.Need-slice-write-to Inv-loop μ-loop
 slice-write-to c = search needs
 
--- src/lib.rt:176:9
 add-i : tie.Need-add-i Inv-loop μ-loop
 add-i c = search needs
 
--- src/lib.rt:174:5
 loop-less : tie.Need-loop-less Inv-loop μ-loop
 loop-less c = search needs
 
--- src/lib.rt:174:5
 loop-again : tie.Need-loop-again Inv-loop μ-loop
 loop-again c = (search needs, simp length-set (search needs), copied-more _ _ _ _ (c .before .before .loop .inv .2) (search needs) (search needs))
 
--- src/lib.rt:169:1
 same-length : tie.Need-same-length Inv-loop μ-loop
 same-length c = search needs
 
--- src/lib.rt:169:1
 returns : tie.Need-returns Inv-loop μ-loop
 returns c = copied-all _ _ _ _ (c .before .loop .inv) (search needs)
 

@@ -1,29 +1,22 @@
+-- `words::passes` meets its contract.
+-- Assumes nothing.
 use Rattle.words.proofs.Tests.{passes-all, passes-text, passes-label}
 use borrow.Author.Needs.{needs}
 use Rattle.words.proofs.passes.Statement.{statement}
 use Rattle.words.proofs.passes.Tie as tie
-use Rattle.words.proofs.passes.Reads as reads
-use Rattle.words.proofs.passes.Lts as lts
-use Rattle.words.proofs.is_labelled.Reads as is-labelled-reads
-use Rattle.words.proofs.is_text.Reads as is-text-reads
 
--- src/lib.rt:211:18
 is-text-requires : tie.Need-is-text-requires
 is-text-requires c κs = search needs
 
--- src/lib.rt:210:22
 is-labelled-requires : tie.Need-is-labelled-requires
 is-labelled-requires c κs = search needs
 
--- src/lib.rt:205:1
 returns : tie.Need-returns
 returns c = passes-all _ _ (c .match .keys1)
 
--- src/lib.rt:205:1
 returns-2 : tie.Need-returns-2
 returns-2 c = passes-text _ _ _ (c .before .match .keys2) (c .is-text .ensures)
 
--- src/lib.rt:205:1
 returns-3 : tie.Need-returns-3
 returns-3 c = passes-label _ _ _ (c .before .match .rest .0 .1) (c .before .match .rest .1) (c .is-labelled .ensures)
 

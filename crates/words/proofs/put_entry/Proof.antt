@@ -1,53 +1,42 @@
+-- `words::put_entry` meets its contract.
+-- Assumes nothing.
 use native.Mathlib.Omega.{arith}
 use lib.ListN.{length-set}
 use Rattle.words.proofs.Stores.{stored-three}
 use borrow.Author.Needs.{needs}
 use Rattle.words.proofs.put_entry.Statement.{statement}
 use Rattle.words.proofs.put_entry.Tie as tie
-use Rattle.words.proofs.put_entry.Reads as reads
-use Rattle.words.proofs.put_entry.Lts as lts
 
--- src/lib.rt:110:14
 mul-at : tie.Need-mul-at
 mul-at c = search needs
 
--- src/lib.rt:111:5
 mul-t : tie.Need-mul-t
 mul-t c = search needs
 
--- src/lib.rt:111:5
 slice-write-t : tie.Need-slice-write-t
 slice-write-t c = search needs
 
--- src/lib.rt:112:7
 add-t : tie.Need-add-t
 add-t c = search needs
 
--- src/lib.rt:112:5
 mul-t-2 : tie.Need-mul-t-2
 mul-t-2 c = search needs
 
--- src/lib.rt:112:5
 slice-write-t-2 : tie.Need-slice-write-t-2
 slice-write-t-2 c = simp length-set (omega arith)
 
--- src/lib.rt:113:7
 add-t-2 : tie.Need-add-t-2
 add-t-2 c = search needs
 
--- src/lib.rt:113:5
 mul-t-3 : tie.Need-mul-t-3
 mul-t-3 c = search needs
 
--- src/lib.rt:113:5
 slice-write-t-3 : tie.Need-slice-write-t-3
 slice-write-t-3 c = simp length-set (omega arith)
 
--- src/lib.rt:106:1
 same-length : tie.Need-same-length
 same-length c = search needs
 
--- src/lib.rt:106:1
 returns : tie.Need-returns
 returns c = stored-three _ _ _ _ _ (omega arith)
 

@@ -1,65 +1,51 @@
+-- `words::put_node` meets its contract.
+-- Assumes nothing.
 use native.Mathlib.Omega.{arith}
 use lib.ListN.{length-set}
 use Rattle.words.proofs.Stores.{stored-four}
 use borrow.Author.Needs.{needs}
 use Rattle.words.proofs.put_node.Statement.{statement}
 use Rattle.words.proofs.put_node.Tie as tie
-use Rattle.words.proofs.put_node.Reads as reads
-use Rattle.words.proofs.put_node.Lts as lts
 
--- src/lib.rt:121:14
 mul-at : tie.Need-mul-at
 mul-at c = search needs
 
--- src/lib.rt:122:5
 mul-t : tie.Need-mul-t
 mul-t c = search needs
 
--- src/lib.rt:122:5
 slice-write-t : tie.Need-slice-write-t
 slice-write-t c = search needs
 
--- src/lib.rt:123:7
 add-t : tie.Need-add-t
 add-t c = search needs
 
--- src/lib.rt:123:5
 mul-t-2 : tie.Need-mul-t-2
 mul-t-2 c = search needs
 
--- src/lib.rt:123:5
 slice-write-t-2 : tie.Need-slice-write-t-2
 slice-write-t-2 c = simp length-set (omega arith)
 
--- src/lib.rt:124:7
 add-t-2 : tie.Need-add-t-2
 add-t-2 c = search needs
 
--- src/lib.rt:124:5
 mul-t-3 : tie.Need-mul-t-3
 mul-t-3 c = search needs
 
--- src/lib.rt:124:5
 slice-write-t-3 : tie.Need-slice-write-t-3
 slice-write-t-3 c = simp length-set (omega arith)
 
--- src/lib.rt:125:7
 add-t-3 : tie.Need-add-t-3
 add-t-3 c = search needs
 
--- src/lib.rt:125:5
 mul-t-4 : tie.Need-mul-t-4
 mul-t-4 c = search needs
 
--- src/lib.rt:125:5
 slice-write-t-4 : tie.Need-slice-write-t-4
 slice-write-t-4 c = simp length-set (omega arith)
 
--- src/lib.rt:117:1
 same-length : tie.Need-same-length
 same-length c = search needs
 
--- src/lib.rt:117:1
 returns : tie.Need-returns
 returns c = stored-four _ _ _ _ _ _ (omega arith)
 

@@ -1,0 +1,2 @@
+-- What a scope of the code shows of a scope of the definitions.
+pub mod Shows
