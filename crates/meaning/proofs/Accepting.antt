@@ -95,7 +95,7 @@ uses-once code =
     eqb-true _ _ (not-false _ (lowest-none (misused code) (length code - 1) h q l))
 
 -- 9 and 10: the type table is formed
-types-formed : {room : ℕ} {D : Defs} {T : Table} → room ≤ 4096 → TypesRead room T → DefsRead (length T) D → Ends (λ _. Formed D T) (λ n p. (9 ≤ n) × (n ≤ 10) × (p < 4096)) (checkTypes D T)
+pub types-formed : {room : ℕ} {D : Defs} {T : Table} → room ≤ 4096 → TypesRead room T → DefsRead (length T) D → Ends (λ _. Formed D T) (λ n p. (9 ≤ n) × (n ≤ 10) × (p < 4096)) (checkTypes D T)
 unfolding checkTypes
 types-formed {D = D} {T = T} small t d =
     ends-bind (ends-refuseAt 9 (lowest (undefinedName D T) (length T)) (λ p e. (omega arith, omega arith, omega (arith, t .fits, lowest-at (undefinedName D T) (length T) p e .0)))) λ _ named.

@@ -1,12 +1,12 @@
 -- A lent table of rows, each of the same width: what stands at a row's place, and one row more. Shown once over the width; type entries, query nodes
 -- and forest entries are instances.
 -- Assumes nothing.
-use mathlib.Core.Path.{_≡_, refl, sym, ap, _∙_}
+use mathlib.Core.Path.{_≡_, sym, ap, _∙_}
 use mathlib.Core.List.{List, [], _∷_, _++_, append-assoc, append-nil}
 use Prim.Native.Nat.{ℕ, zero, suc, _+_, _*_, _-_, _≤_, _<_}
 use native.Mathlib.Omega.{arith}
 use native.Mathlib.Nat.{mul-suc, mul-le-mul-left}
-use lib.ListN.{length, getD, take, drop, replicate, length-append, length-replicate, List·getD-append}
+use lib.ListN.{length, getD, drop, replicate, length-append, length-replicate, List·getD-append}
 use lib.Seq.{getD-append-add, take-at, drop-append-add}
 use Rattle.meaning.specs.Base.{concatMap, zeros, padded}
 use Rattle.words.specs.Tables.{stored}

@@ -6,6 +6,7 @@ ghost use Prim.Native.Nat.{_+_, _*_, _≤_, _<_};
 ghost use lib.ListN.{length, getD};
 ghost use Rattle.meaning.specs.Base.{word, bytesOf, zeros, typeWidth, codeWidth, typeCapacity, codeCapacity, workCapacity};
 ghost use Rattle.meaning.specs.Forests.{passes};
+ghost use Rattle.meaning.specs.Records.{isCondition};
 ghost use Rattle.words.specs.Tables.{stored};
 ghost use Rattle.words.specs.Says.{headOf, Appends};
 
@@ -94,6 +95,16 @@ pub fn read_node(t: &[u16], n: usize) -> Node
     let b = t[at + 2];
     let c = t[at + 3];
     Node { kind, a, b, c }
+}
+
+// Whether a query node of this kind is a condition.
+pub fn is_condition(kind: u16) -> bool
+    ensures { λ r. ⌜ r ≡ isCondition kind ⌝ }
+{
+    if kind < 48 {
+        return false;
+    }
+    kind <= 53
 }
 
 // The words of an entry stored at its place.

@@ -1,0 +1,2 @@
+-- Proofs of the checks.
+pub mod Answering

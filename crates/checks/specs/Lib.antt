@@ -1,0 +1,2 @@
+-- What the checks answer in document 01's terms, and what they are given.
+pub mod Says
