@@ -85,8 +85,8 @@ fn first_tangled(vars: &[u16], declared: usize, marks: &[u16]) -> words::Found
     words::Found::Nowhere
 }
 
-// 11: the first declared tree variable whose type has other than unions of atoms.
-pub fn tangled(
+// 11: the first declared tree variable whose type has other than unions of atoms. `marks` has room for a mark of each entry.
+fn tangled_within(
     types: &[u16],
     count: usize,
     vars: &[u16],
@@ -98,4 +98,13 @@ pub fn tangled(
 {
     mark_atoms(types, count, marks);
     first_tangled(vars, declared, marks)
+}
+
+// The same, of at most 4,096 entries.
+pub fn tangled(types: &[u16], count: usize, vars: &[u16], declared: usize) -> words::Found
+    requires { ⌜ Typed (now types) count ⌝ ∗ ⌜ count ≤ 4096 ⌝ ∗ ⌜ 3 * declared ≤ length (now vars) ⌝ ∗ ⌜ Scoped count (varsOf (now vars) declared) ⌝ }
+    ensures { λ r. ⌜ ((D : Defs) → Formed D (tableOf (now (types .entry)) count) → found r ≡ tangled D (tableOf (now (types .entry)) count) (varsOf (now (vars .entry)) declared)) ⌝ }
+{
+    let mut marks = [0u16; 4096];
+    tangled_within(types, count, vars, declared, &mut marks)
 }

@@ -1,15 +1,12 @@
 // The checks of a whole job, 8 to 12, tried in that order.
 ghost use mathlib.Core.Path.{_≡_};
-ghost use Prim.Native.Nat.{ℕ, _*_, _-_, _≤_};
-ghost use lib.ListN.{length, take};
-ghost use Rattle.meaning.specs.Base.{lowest, typeWidth};
+ghost use Prim.Native.Nat.{_*_, _≤_};
+ghost use lib.ListN.{length};
 ghost use Rattle.meaning.specs.Types.{Defs};
 ghost use Rattle.meaning.specs.Records.{Tables};
 ghost use Rattle.meaning.specs.Formed.{Formed};
-ghost use Rattle.meaning.specs.Checks.{checkTypes, tangled, misused, checkJob};
+ghost use Rattle.meaning.specs.Checks.{checkJob};
 ghost use Rattle.words.specs.Tables.{tableOf, codeOf, varsOf};
-ghost use Rattle.words.specs.Says.{found};
-ghost use Rattle.guard.specs.Says.{outcome, Given};
 ghost use Rattle.atoms.specs.Marks.{Typed, Scoped};
 ghost use Rattle.uses.specs.Counts.{Coded};
 ghost use Rattle.checks.specs.Says.{verdict, passed, fromVars, Ready, Stored};
@@ -18,35 +15,7 @@ use words::Found;
 // What the checks answer: nothing to refuse, or a refusal's number and place.
 pub enum Verdict {
     Passed,
-    Refused { number: usize, place: usize },
-}
-
-// 9 and 10, with room for the sets.
-fn check_types(types: &[u16], count: usize, defs: &[u16], used: usize) -> guard::Checked
-    requires { ⌜ Given (now types) count (now defs) used ⌝ ∗ ⌜ count ≤ 4096 ⌝ }
-    ensures { λ r. ⌜ outcome r ≡ checkTypes (take used (now (defs .entry))) (tableOf (now (types .entry)) count) ⌝ }
-{
-    let mut masks = [0u64; 4096];
-    let mut reach = [0u64; 64];
-    guard::check_types(types, count, defs, used, &mut masks, &mut reach)
-}
-
-// 11, with room for the marks.
-fn tangled(types: &[u16], count: usize, vars: &[u16], declared: usize) -> Found
-    requires { ⌜ Typed (now types) count ⌝ ∗ ⌜ count ≤ 4096 ⌝ ∗ ⌜ 3 * declared ≤ length (now vars) ⌝ ∗ ⌜ Scoped count (varsOf (now vars) declared) ⌝ }
-    ensures { λ r. ⌜ ((D : Defs) → Formed D (tableOf (now (types .entry)) count) → found r ≡ tangled D (tableOf (now (types .entry)) count) (varsOf (now (vars .entry)) declared)) ⌝ }
-{
-    let mut marks = [0u16; 4096];
-    atoms::tangled(types, count, vars, declared, &mut marks)
-}
-
-// 12, with room for the counts.
-fn misuse(code: &[u16], nodes: usize) -> Found
-    requires { ⌜ Coded (now code) nodes ⌝ }
-    ensures { λ r. ⌜ found r ≡ lowest (misused (codeOf (now (code .entry)) nodes)) (nodes - 1) ⌝ }
-{
-    let mut uses = [0u16; 1024];
-    uses::misuse(code, nodes, &mut uses)
+    Refused { number: u16, place: usize },
 }
 
 // 11, then 12.
@@ -61,13 +30,13 @@ fn check_vars_uses(
     requires { ⌜ Typed (now types) count ⌝ ∗ ⌜ count ≤ 4096 ⌝ ∗ ⌜ 3 * declared ≤ length (now vars) ⌝ ∗ ⌜ Scoped count (varsOf (now vars) declared) ⌝ ∗ ⌜ Coded (now code) nodes ⌝ }
     ensures { λ r. ⌜ ((D : Defs) → Formed D (tableOf (now (types .entry)) count) → verdict r ≡ fromVars D (tableOf (now (types .entry)) count) (varsOf (now (vars .entry)) declared) (codeOf (now (code .entry)) nodes)) ⌝ }
 {
-    if let Found::At(v) = tangled(types, count, vars, declared) {
+    if let Found::At(v) = atoms::tangled(types, count, vars, declared) {
         return Verdict::Refused {
             number: 11,
             place: v,
         };
     }
-    if let Found::At(q) = misuse(code, nodes) {
+    if let Found::At(q) = uses::misuse(code, nodes) {
         return Verdict::Refused {
             number: 12,
             place: q,
@@ -97,7 +66,7 @@ pub fn check_job(
             place: bytes,
         };
     }
-    match check_types(types, count, defs, used) {
+    match guard::check_types(types, count, defs, used) {
         guard::Checked::Undefined(e) => {
             return Verdict::Refused {
                 number: 9,

@@ -25,7 +25,7 @@ fn is_undefined(kind: u16, a: u16, b: u16, used: usize) -> bool
 }
 
 // 9: the lowest name without definition.
-pub fn undefined_name(types: &[u16], count: usize, used: usize) -> Found
+fn undefined_name(types: &[u16], count: usize, used: usize) -> Found
     requires { ⌜ typeWidth * count ≤ length (now types) ⌝ }
     ensures { λ r. ⌜ ((D : Defs) → length D ≡ used → found r ≡ lowest (undefinedName D (tableOf (now (types .entry)) count)) count) ⌝ }
 {
@@ -146,8 +146,8 @@ fn lowest_circle(used: usize, reach: &[u64]) -> Found
 }
 
 // 10: the lowest definition that reaches itself without entering an element, in at most count + used * used steps. `masks` has room for a set of each
-// entry and `reach` for one of each definition: their lengths stay, and what they hold is of no use to the caller before or after.
-pub fn circle(
+// entry and `reach` for one of each definition.
+fn circle(
     types: &[u16],
     count: usize,
     defs: &[u16],
@@ -172,7 +172,7 @@ pub enum Checked {
 }
 
 // 9, then 10. `masks` and `reach` as in `circle`.
-pub fn check_types(
+fn check_within(
     types: &[u16],
     count: usize,
     defs: &[u16],
@@ -190,4 +190,14 @@ pub fn check_types(
         return Checked::Circle(d);
     }
     Checked::Sound
+}
+
+// 9, then 10, of at most 4,096 entries.
+pub fn check_types(types: &[u16], count: usize, defs: &[u16], used: usize) -> Checked
+    requires { ⌜ Given (now types) count (now defs) used ⌝ ∗ ⌜ count ≤ 4096 ⌝ }
+    ensures { λ r. ⌜ outcome r ≡ checkTypes (take used (now (defs .entry))) (tableOf (now (types .entry)) count) ⌝ }
+{
+    let mut masks = [0u64; 4096];
+    let mut reach = [0u64; 64];
+    check_within(types, count, defs, used, &mut masks, &mut reach)
 }

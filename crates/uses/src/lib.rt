@@ -103,12 +103,21 @@ fn lowest_misuse(counts: &[u16], nodes: usize) -> words::Found
     words::Found::Nowhere
 }
 
-// 12: the lowest node but the root that is not used exactly once.
-pub fn misuse(code: &[u16], nodes: usize, uses: &mut [u16]) -> words::Found
+// 12: the lowest node but the root that is not used exactly once. `uses` has room for a count of each node.
+fn misuse_within(code: &[u16], nodes: usize, uses: &mut [u16]) -> words::Found
     requires { ⌜ Coded (now code) nodes ⌝ ∗ ⌜ nodes ≤ length (now uses) ⌝ }
     ensures { λ r. ⌜ found r ≡ lowest (misused (codeOf (now (code .entry)) nodes)) (nodes - 1) ⌝ }
 {
     words::clear(uses);
     count_all(code, nodes, uses);
     lowest_misuse(uses, nodes)
+}
+
+// The same, of at most 1,024 nodes.
+pub fn misuse(code: &[u16], nodes: usize) -> words::Found
+    requires { ⌜ Coded (now code) nodes ⌝ }
+    ensures { λ r. ⌜ found r ≡ lowest (misused (codeOf (now (code .entry)) nodes)) (nodes - 1) ⌝ }
+{
+    let mut uses = [0u16; 1024];
+    misuse_within(code, nodes, &mut uses)
 }

@@ -1,8 +1,8 @@
--- `atoms::tangled` meets its contract: the marks are right, and the search goes by them. Assumes nothing.
+-- `atoms::tangled_within` meets its contract: the marks are right, and the search goes by them. Assumes nothing.
 use Rattle.atoms.proofs.Variables.{scoped-more}
 use borrow.Author.Needs.{needs}
-use Rattle.atoms.proofs.tangled.Statement.{statement}
-use Rattle.atoms.proofs.tangled.Tie as tie
+use Rattle.atoms.proofs.tangled_within.Statement.{statement}
+use Rattle.atoms.proofs.tangled_within.Tie as tie
 
 mark-atoms-requires : tie.Need-mark-atoms-requires
 mark-atoms-requires c κs = search needs
@@ -21,5 +21,5 @@ returns c =
     let start = c .before .before .before .before .before .before .before .before .before in
     λ D F. c .first-tangled .ensures D _ _ (mark-atoms .ensures D F) (start .pre .1 .1 .1)
 
-pub tangled-spec : {M : Type 1} → statement M
-tangled-spec = tie.close (tie.spec mark-atoms-requires first-tangled-requires same-length returns)
+pub tangled-within-spec : {M : Type 1} → statement M
+tangled-within-spec = tie.close (tie.spec mark-atoms-requires first-tangled-requires same-length returns)

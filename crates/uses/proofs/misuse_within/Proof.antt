@@ -1,9 +1,9 @@
--- `uses::misuse` meets its contract: the cleared table counts nothing, so what it holds then is how often each node is used. Assumes nothing.
+-- `uses::misuse_within` meets its contract: the cleared table counts nothing, so what it holds then is how often each node is used. Assumes nothing.
 use mathlib.Core.Path.{_∙_}
 use Rattle.uses.proofs.Counting.{misuse-found, all-zeros}
 use borrow.Author.Needs.{needs}
-use Rattle.uses.proofs.misuse.Statement.{statement}
-use Rattle.uses.proofs.misuse.Tie as tie
+use Rattle.uses.proofs.misuse_within.Statement.{statement}
+use Rattle.uses.proofs.misuse_within.Tie as tie
 
 clear-requires : tie.Need-clear-requires
 clear-requires c κs = search needs
@@ -26,7 +26,7 @@ returns c =
     let clear = c .before .before .before .before .before .before .before .before .clear in
     c .lowest-misuse .ensures ∙ misuse-found _ _ _ (clear .ensures) (count-all .ensures)
 
-pub misuse-spec : {M : Type 1} → statement M
-misuse-spec =
+pub misuse-within-spec : {M : Type 1} → statement M
+misuse-within-spec =
     tie.close
     (tie.spec clear-requires count-all-requires lowest-misuse-requires same-length returns)
