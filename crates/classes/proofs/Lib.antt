@@ -1,0 +1,5 @@
+-- Laws of the array of classes. Read in this order.
+pub mod Entries
+pub mod Laws
+pub mod Words
+pub mod Passes

@@ -1,0 +1,56 @@
+-- An entry of a table as the code reads its words: which it is, and its class.
+-- Assumes nothing.
+use mathlib.Core.Path.{_≡_, sym, subst, _∙_}
+use mathlib.Core.Logic.{_≢_}
+use mathlib.Core.List.{List}
+use Prim.Native.Nat.{ℕ, _+_, _*_, _<_}
+use native.Mathlib.Omega.{arith}
+use lib.ListN.{length, getD, take, length-take}
+use lib.Seq.{getD-take}
+use Rattle.meaning.specs.Base.{At, typeWidth}
+use Rattle.meaning.specs.Types as Types
+use Rattle.meaning.specs.Types.{Table, Defs, entryOf, at}
+use Rattle.meaning.specs.Shapes.{shape, quant}
+use Rattle.meaning.proofs.Lists.{at-is}
+use Rattle.words.specs.Tables.{tableOf}
+use Rattle.words.specs.declared.Entry.{Entry}
+use Rattle.words.proofs.Tables.{table-length, table-at}
+use Rattle.classes.specs.Classes.{codeOf, Parts, From, Place}
+use Rattle.classes.proofs.Entries.{kind-name, plain}
+use Rattle.classes.proofs.Laws.{class-plain, class-name}
+
+-- the words at an entry's place make the entry
+pub entry-read : (ws : List ℕ) (n e : ℕ) → e < n → (w : Entry)
+    → w ≡ record { kind = getD ws (typeWidth * e) 0; a = getD ws (typeWidth * e + 1) 0; b = getD ws (typeWidth * e + 2) 0 }
+    → entryOf (w .kind) (w .a) (w .b) ≡ at (tableOf ws n) e
+entry-read ws n e l w q = rw q (sym (table-at ws n e l))
+
+-- a definition that is in use, as it is read
+pub definition-read : (m : ℕ) (ds : List ℕ) (d : ℕ) → d < length (take m ds) → (d < length ds) × (getD (take m ds) d 0 ≡ getD ds d 0)
+definition-read m ds d l = (omega (arith, length-take m ds), getD-take m ds d 0 (omega (arith, length-take m ds)))
+
+module _ (ds : List ℕ) (m : ℕ) (ws : List ℕ) (n : ℕ) (cs : List ℕ) (P : Place (take m ds) ws n cs) (e : ℕ) (l : e < n) (w : Entry)
+    (q : entryOf (w .kind) (w .a) (w .b) ≡ at (tableOf ws n) e) where
+  abbrev D : Defs
+  D = take m ds
+
+  abbrev T : Table
+  T = tableOf ws n
+
+  low : e < length T
+  low = rw table-length l
+
+  pub plain-class : w .kind ≢ 9 → (r : ℕ) → From cs (entryOf (w .kind) (w .a) (w .b)) r → Parts D T cs (at T e) → r ≡ codeOf (quant (shape D T e))
+  plain-class p r h = class-plain D T (P .formed) cs e low (entryOf (w .kind) (w .a) (w .b)) r q (plain (w .kind) (w .a) (w .b) p) h
+
+  name-is : w .kind ≡ 9 → Types.name (w .a) ≡ at T e
+  name-is p = sym (kind-name (w .a) (w .b) p) ∙ q
+
+  name-low : w .kind ≡ 9 → w .a < length D
+  name-low p = P .formed .named e (w .a) (subst (At T e) (sym (name-is p)) (at-is T e Types.empty low))
+
+  pub name-inside : w .kind ≡ 9 → w .a < length ds
+  name-inside p = definition-read m ds (w .a) (name-low p) .0
+
+  pub name-class : w .kind ≡ 9 → (r : ℕ) → r ≡ getD cs (getD ds (w .a) 0) 0 → Parts D T cs (at T e) → r ≡ codeOf (quant (shape D T e))
+  name-class p r h parts = h ∙ rw (definition-read m ds (w .a) (name-low p) .1) at (class-name D T (P .formed) cs e low (w .a) (name-is p) parts)

@@ -1,0 +1,2 @@
+-- A lent type table that typing grows, and what a rule of the code leaves.
+pub mod Grow
