@@ -3,12 +3,13 @@
 use mathlib.Core.Path.{_≡_, refl, ap, sym, _∙_, subst}
 use mathlib.Core.Bool.{Bool, true, false}
 use mathlib.Core.List.{List}
+use mathlib.Core.Option.{Option}
 use Prim.Native.Nat.{ℕ, _-_, _≤_}
 use native.Mathlib.Omega.{arith}
 use lib.ListN.{take}
 use Rattle.meaning.specs.Base.{Out, ok, refused, _>>=_, require, lowest}
 use Rattle.meaning.specs.Types.{Table, Defs}
-use Rattle.meaning.specs.Records.{Var, Node, Tables}
+use Rattle.meaning.specs.Records.{Var, Tables}
 use Rattle.meaning.specs.Formed.{Formed, DefsRead}
 use Rattle.meaning.specs.Checks.{hasRoot, checkRoot, checkTypes, tangled, checkVars, misused, checkUses, checkJob}
 use Rattle.meaning.proofs.Ends.{ends-ok, Ends}
@@ -23,32 +24,29 @@ use Rattle.atoms.specs.Marks.{Typed, Scoped}
 use Rattle.atoms.proofs.Variables.{scoped-read}
 use Rattle.uses.specs.Counts.{Coded}
 use Rattle.uses.proofs.Counting.{coded-read}
-use Rattle.checks.specs.Says.{verdict, passed, fromVars, Ready, Stored}
+use Rattle.checks.specs.Says.{verdict, passed, inTurn, fromVars, Ready, Stored}
 use Rattle.checks.specs.declared.Verdict.{Verdict}
 use Rattle.checks.specs.declared.Verdict.the-variants.{Passed, Refused}
 
+-- one refusal, then another
+module _ (n m : ℕ) {one : Found} where
+  pub first-one : (x : Option ℕ) {place : ℕ} → one ≡ Found.At place → verdict (Refused n place) ≡ inTurn n (found one) m x
+  unfolding inTurn
+  first-one x p = rw p
+
+  module _ {other : Found} (p : one ≡ Found.Nowhere) where
+    pub first-other : {place : ℕ} → other ≡ Found.At place → verdict (Refused m place) ≡ inTurn n (found one) m (found other)
+    unfolding inTurn
+    first-other q = rw (p, q)
+
+    pub first-none : other ≡ Found.Nowhere → verdict Passed ≡ inTurn n (found one) m (found other)
+    unfolding inTurn
+    first-none q = rw (p, q)
+
 -- 11, then 12
-module _ (D : Defs) (T : Table) (vs : List (ℕ × Var)) (ws : List ℕ) (nodes : ℕ) where
-  abbrev C : List Node
-  C = codeOf ws nodes
-
-  abbrev Tangled : Found → Type 0
-  Tangled r = found r ≡ tangled D T vs
-
-  abbrev Misused : Found → Type 0
-  Misused r = found r ≡ lowest (misused C) (nodes - 1)
-
-  pub eleven : {first : Found} {v : ℕ} → Tangled first → first ≡ Found.At v → verdict (Refused 11 v) ≡ fromVars D T vs C
-  unfolding fromVars checkVars
-  eleven h p = rw (← h, p)
-
-  pub twelve : {first second : Found} {q : ℕ} → Tangled first → first ≡ Found.Nowhere → Misused second → second ≡ Found.At q → verdict (Refused 12 q) ≡ fromVars D T vs C
-  unfolding fromVars checkVars checkUses
-  twelve h p k q = rw (← h, p, code-length ws nodes, ← k, q)
-
-  pub neither : {first second : Found} → Tangled first → first ≡ Found.Nowhere → Misused second → second ≡ Found.Nowhere → verdict Passed ≡ fromVars D T vs C
-  unfolding fromVars checkVars checkUses
-  neither h p k q = rw (← h, p, code-length ws nodes, ← k, q)
+pub in-turn : (D : Defs) (T : Table) (vs : List (ℕ × Var)) (ws : List ℕ) (nodes : ℕ) {one other : Option ℕ} → one ≡ tangled D T vs → other ≡ lowest (misused (codeOf ws nodes)) (nodes - 1) → inTurn 11 one 12 other ≡ fromVars D T vs (codeOf ws nodes)
+unfolding inTurn fromVars checkVars checkUses
+in-turn D T vs ws nodes p q = rw (p, q, code-length ws nodes)
 
 -- what reading leaves is what each check asks
 module _ {types : List ℕ} {count : ℕ} {defs : List ℕ} {used : ℕ} {vars : List ℕ} {declared : ℕ} {code : List ℕ} {nodes : ℕ} (r : Ready types count defs used vars declared code nodes) where

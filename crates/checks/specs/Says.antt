@@ -2,9 +2,10 @@
 -- Assumes nothing.
 use mathlib.Core.Path.{_≡_}
 use mathlib.Core.List.{List}
+use mathlib.Core.Option.{Option}
 use Prim.Native.Nat.{ℕ, _*_, _≤_}
 use lib.ListN.{length, take}
-use Rattle.meaning.specs.Base.{Out, ok, refused, _>>=_, typeWidth, codeWidth}
+use Rattle.meaning.specs.Base.{Out, ok, refused, _>>=_, refuseAt, typeWidth, codeWidth}
 use Rattle.meaning.specs.Types.{Table, Defs}
 use Rattle.meaning.specs.Records.{Var, Node, Tables}
 use Rattle.meaning.specs.Formed.{TypesRead, DefsRead, VarsRead, CodeRead}
@@ -21,6 +22,12 @@ verdict (Refused n p) = refused n p
 abbrev pub passed : Tables → Verdict → Out Tables
 passed t Passed = ok t
 passed t (Refused n p) = refused n p
+
+-- refusal n where one thing was found, then refusal m where another was
+unfoldable pub inTurn : ℕ → Option ℕ → ℕ → Option ℕ → Out (Unit {0})
+inTurn n one m other = do
+  _ ← refuseAt n one
+  refuseAt m other
 
 -- the last two of the checks, 11 and 12
 unfoldable pub fromVars : Defs → Table → List (ℕ × Var) → List Node → Out (Unit {0})

@@ -1,0 +1,3 @@
+-- What the promises rule out.
+pub mod Once
+pub mod Jobs

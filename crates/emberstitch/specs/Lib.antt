@@ -1,0 +1,2 @@
+-- What each public operation promises.
+pub mod Promises

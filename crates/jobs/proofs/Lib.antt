@@ -1,0 +1,2 @@
+-- Laws of reading a job.
+pub mod Checking

@@ -1,0 +1,13 @@
+-- `jobs::refusal` meets its contract: by what the answer to a refusal is. Assumes nothing.
+use mathlib.Core.Path.{refl}
+use Rattle.meaning.specs.Base.{zeros}
+use Rattle.jobs.specs.Says.{jobOf}
+use Rattle.jobs.proofs.refusal.Statement.{statement}
+use Rattle.jobs.proofs.refusal.Tie as tie
+
+returns : tie.Need-returns
+unfolding jobOf zeros
+returns c = refl
+
+pub refusal-spec : {M : Type 1} → statement M
+refusal-spec = tie.close (tie.spec returns)
