@@ -281,7 +281,7 @@ pub fn record_at(file: File, s: &[u8], at: usize) -> Rec
 }
 
 // Whether a field fits its sort, with so many type entries, and so many query nodes in their table.
-pub fn field_fits(sort: Sort, w: u16, types: usize, code: &[u16], nodes: usize) -> bool
+fn field_fits(sort: Sort, w: u16, types: usize, code: &[u16], nodes: usize) -> bool
     requires { ⌜ codeWidth * nodes ≤ length (now code) ⌝ }
     ensures { λ r. ⌜ r ≡ fits types (codeOf (now (code .entry)) nodes) (sortOf sort) w ⌝ }
 {
