@@ -2,41 +2,28 @@
 -- Assumes nothing.
 use mathlib.Core.Path.{_≡_, refl, _∙_}
 use mathlib.Core.List.{List}
-use Prim.Native.Nat.{ℕ, _+_, _*_, _≤_, _<_}
+use Prim.Native.Nat.{ℕ, _+_, _≤_, _<_}
 use native.Mathlib.Omega.{arith}
 use native.Mathlib.Decide.{ℕ-discrete}
 use lib.Dec.{eqb}
 use lib.ListN.{length, getD, set, length-set}
 use lib.Seq.{getD-set-same, getD-set-other}
-use Rattle.meaning.specs.Base.{At, find, typeWidth}
+use Rattle.meaning.specs.Base.{At, find}
 use Rattle.meaning.specs.Kinds.{type·union}
-use Rattle.meaning.specs.Types as Types
 use Rattle.meaning.specs.Types.{Entry, Table, Defs, entryOf}
 use Rattle.meaning.specs.Shapes.{shape, isAtoms}
 use Rattle.meaning.specs.Formed.{Formed}
-use Rattle.meaning.proofs.Lists.{at-is}
-use Rattle.words.specs.Tables.{entryAt, tableOf}
+use Rattle.words.specs.Tables.{tableOf}
 use Rattle.words.specs.declared.Entry as Words
-use Rattle.words.proofs.Tables.{table-length, table-at}
+use Rattle.words.proofs.Entries.{Read, entry-stands}
 use Rattle.atoms.specs.Marks.{Marked, Typed}
 use Rattle.atoms.proofs.Entries.{union-low}
-
--- what stands in a lent table
-entry-at : (types : List ℕ) (count e : ℕ) → e < count → At (tableOf types count) e (entryAt types e)
-entry-at types count e l = rw (table-at types count e l) at (at-is (tableOf types count) e Types.empty (omega (arith, table-length types count)))
-
--- the words that were read at an entry's place
-abbrev pub Read : List ℕ → ℕ → Words.Entry → Type 0
-Read t e w = w ≡ record { kind = getD t (typeWidth * e) 0; a = getD t (typeWidth * e + 1) 0; b = getD t (typeWidth * e + 2) 0 }
-
-entry-read : (types : List ℕ) (count e : ℕ) (w : Words.Entry) → Read types e w → e < count → At (tableOf types count) e (entryOf (w .kind) (w .a) (w .b))
-entry-read types count e w p l = rw p (entry-at types count e l)
 
 -- the parts of a union have places in the marks
 pub parts-inside : {types : List ℕ} {count : ℕ} (e : ℕ) {n : ℕ} (w : Words.Entry) → Typed types count → Read types e w → e < count → e < n → w .kind ≡ type·union → (w .a < n) × (w .b < n)
 unfolding entryOf find
 parts-inside {types} {count} e w t r l m p =
-    let low = union-low {a = w .a} {b = w .b} e (t .formed) (rw p at (entry-read types count e w r l)) in
+    let low = union-low {a = w .a} {b = w .b} e (t .formed) (rw p at (entry-stands types count e l w r)) in
     (omega arith, omega arith)
 
 -- one mark more
@@ -63,7 +50,7 @@ marking-more {types} {count} {before} {marks} {e} w m s l room r h =
     record {
       to = omega arith;
       long = length-set marks e m ∙ s .long;
-      done = λ D F. marked-more m marks (omega (arith, s .long)) (s .done D F) (h D (tableOf types count) e F (entry-read types count e w r l) (s .done D F));
+      done = λ D F. marked-more m marks (omega (arith, s .long)) (s .done D F) (h D (tableOf types count) e F (entry-stands types count e l w r) (s .done D F));
     }
 
 pub marking-all : {types : List ℕ} {count : ℕ} {before marks : List ℕ} {e : ℕ} → Marking types count before marks e → count ≤ e → (D : Defs) → Formed D (tableOf types count) → Marked D (tableOf types count) count marks

@@ -21,7 +21,7 @@ use Rattle.words.specs.Tables.{varIn, varsOf}
 use Rattle.words.proofs.Tables.{vars-length, vars-at}
 use Rattle.words.specs.declared.Entry as Words
 use Rattle.atoms.specs.Marks.{Marked, Scoped}
-use Rattle.atoms.proofs.Marking.{Read}
+use Rattle.words.proofs.Entries.{Read}
 
 -- as reading guarantees; and among more entries
 pub scoped-read : {n : ℕ} {vars : List (ℕ × Var)} → VarsRead n vars → Scoped n vars

@@ -20,7 +20,7 @@ use Rattle.meaning.proofs.Guard.{Goes, part, defn, lower-goes}
 use Rattle.meaning.proofs.Shapes.{shape-law, shape-grows}
 use Rattle.meaning.proofs.Grow.{formed-append}
 use Rattle.classes.specs.Classes.{codeOf, classOf, Right, Filled, Parts, From}
-use Rattle.classes.proofs.Entries.{Kinded, kinded, is-string, is-element, is-pair, is-union, is-star, is-plus, is-opt, is-name, is-other, kind-string, kind-element, kind-pair, kind-union, kind-star, kind-plus, kind-opt}
+use Rattle.words.proofs.Entries.{Kinded, kinded, is-string, is-element, is-pair, is-union, is-star, is-plus, is-opt, is-name, is-other, kind-string, kind-element, kind-pair, kind-union, kind-star, kind-plus, kind-opt}
 
 -- CODES
 pub class-code : (q : Class) → classOf (codeOf q) ≡ q

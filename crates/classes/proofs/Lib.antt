@@ -1,5 +1,4 @@
 -- Laws of the array of classes. Read in this order.
-pub mod Entries
 pub mod Laws
 pub mod Words
 pub mod Passes

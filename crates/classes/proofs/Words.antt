@@ -3,27 +3,21 @@
 use mathlib.Core.Path.{_≡_, sym, subst, _∙_}
 use mathlib.Core.Logic.{_≢_}
 use mathlib.Core.List.{List}
-use Prim.Native.Nat.{ℕ, _+_, _*_, _<_}
+use Prim.Native.Nat.{ℕ, _<_}
 use native.Mathlib.Omega.{arith}
 use lib.ListN.{length, getD, take, length-take}
 use lib.Seq.{getD-take}
-use Rattle.meaning.specs.Base.{At, typeWidth}
+use Rattle.meaning.specs.Base.{At}
 use Rattle.meaning.specs.Types as Types
 use Rattle.meaning.specs.Types.{Table, Defs, entryOf, at}
 use Rattle.meaning.specs.Shapes.{shape, quant}
 use Rattle.meaning.proofs.Lists.{at-is}
 use Rattle.words.specs.Tables.{tableOf}
 use Rattle.words.specs.declared.Entry.{Entry}
-use Rattle.words.proofs.Tables.{table-length, table-at}
+use Rattle.words.proofs.Tables.{table-length}
 use Rattle.classes.specs.Classes.{codeOf, Parts, From, Place}
-use Rattle.classes.proofs.Entries.{kind-name, plain}
+use Rattle.words.proofs.Entries.{kind-name, plain}
 use Rattle.classes.proofs.Laws.{class-plain, class-name}
-
--- the words at an entry's place make the entry
-pub entry-read : (ws : List ℕ) (n e : ℕ) → e < n → (w : Entry)
-    → w ≡ record { kind = getD ws (typeWidth * e) 0; a = getD ws (typeWidth * e + 1) 0; b = getD ws (typeWidth * e + 2) 0 }
-    → entryOf (w .kind) (w .a) (w .b) ≡ at (tableOf ws n) e
-entry-read ws n e l w q = rw q (sym (table-at ws n e l))
 
 -- a definition that is in use, as it is read
 pub definition-read : (m : ℕ) (ds : List ℕ) (d : ℕ) → d < length (take m ds) → (d < length ds) × (getD (take m ds) d 0 ≡ getD ds d 0)

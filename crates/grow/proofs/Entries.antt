@@ -15,7 +15,7 @@ use Rattle.meaning.proofs.Lists.{at-low, at-getD}
 use Rattle.meaning.proofs.Guard.{steps-low, name-at}
 use Rattle.words.specs.declared.Entry as Words
 use Rattle.words.proofs.Tables.{entry-made}
-use Rattle.classes.proofs.Entries.{Other, kind-string, kind-element, kind-pair, kind-union, kind-star, kind-plus, kind-opt, kind-name, kind-other}
+use Rattle.words.proofs.Entries.{Other, kind-string, kind-element, kind-pair, kind-union, kind-star, kind-plus, kind-opt, kind-name, kind-other}
 use Rattle.grow.specs.Grow.{Shows, New}
 
 -- THE ENTRY THAT WAS READ, by its kind

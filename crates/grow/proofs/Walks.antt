@@ -19,8 +19,8 @@ use Rattle.meaning.proofs.Grow.{Grew, Full, Within, shape-within}
 use Rattle.words.specs.Tables.{tableOf}
 use Rattle.words.specs.declared.Entry as Words
 use Rattle.words.proofs.Tables.{table-length}
-use Rattle.classes.proofs.Entries as Entries
-use Rattle.classes.proofs.Entries.{Other, Kinded, kinded}
+use Rattle.words.proofs.Entries as Entries
+use Rattle.words.proofs.Entries.{Other, Kinded, kinded}
 use Rattle.grow.specs.Grow.{Shows, Ready, Left}
 use Rattle.grow.specs.declared.Made.{Made}
 use Rattle.grow.specs.declared.Made.the-variants as Made

@@ -1,33 +1,22 @@
--- The words of an entry, read from a lent table, are the entry; and when it is a name without definition.
+-- When an entry, by its words, is a name without definition.
 -- Assumes nothing.
 use mathlib.Core.Path.{_≡_, refl, sym, ap, _∙_}
 use mathlib.Core.Bool.{Bool, true, false}
 use mathlib.Core.List.{List, [], _∷_}
 use mathlib.Core.Option.{Option, none, some}
-use Prim.Native.Nat.{ℕ, _+_, _*_, _≤_, _<_}
+use Prim.Native.Nat.{ℕ, _+_, _≤_, _<_}
 use borrow.Author.Tests.{ne-eqb}
 use lib.Dec.{eqb, leb}
-use lib.ListN.{length, getD}
-use Rattle.meaning.specs.Base.{find, otherwise, lowest, typeWidth}
+use lib.ListN.{length}
+use Rattle.meaning.specs.Base.{find, otherwise, lowest}
 use Rattle.meaning.specs.Types as Types
 use Rattle.meaning.specs.Types.{Entry, Defs, entryOf, nameOf, at}
 use Rattle.meaning.specs.Checks.{isUndefined, undefinedName}
 use Rattle.meaning.proofs.Searches.{Seeking, seeking-none, seeking-more, seeking-here, seeking-all}
-use Rattle.words.specs.declared.Entry as Words
 use Rattle.words.specs.Tables.{tableOf}
-use Rattle.words.proofs.Tables.{table-at}
-
--- the words that `read_entry` gives
-pub entry-read : (types : List ℕ) (count e : ℕ) (x : Words.Entry) → e < count
-    → x ≡ record { kind = getD types (typeWidth * e) 0; a = getD types (typeWidth * e + 1) 0; b = getD types (typeWidth * e + 2) 0 }
-    → at (tableOf types count) e ≡ entryOf (x .kind) (x .a) (x .b)
-entry-read types count e x l p = table-at types count e l ∙ sym (ap (λ (w : Words.Entry). entryOf (w .kind) (w .a) (w .b)) p)
+use Rattle.words.proofs.Entries.{kind-name}
 
 -- NAMES by their words
-pub entry-name : (k a b : ℕ) → k ≡ 9 → entryOf k a b ≡ Types.name a
-unfolding entryOf find
-entry-name k a b e = rw e
-
 -- a row that is no name, or not the first
 skip : (k n : ℕ) (x : Entry) (rs : List (ℕ × Entry)) → nameOf x ≡ none → nameOf (otherwise Types.empty (find k rs)) ≡ none → nameOf (otherwise Types.empty (find k ((n, x) ∷ rs))) ≡ none
 unfolding find
@@ -51,7 +40,7 @@ undefined-other k a b D n = ap (isUndefined D) (sym (unnamed k a b n))
 
 pub undefined-name : (k a b used : ℕ) (D : Defs) → k ≡ 9 → length D ≡ used → leb used a ≡ isUndefined D (nameOf (entryOf k a b))
 unfolding nameOf
-undefined-name k a b used D e p = sym (rw (entry-name k a b e, p))
+undefined-name k a b used D e p = sym (rw (kind-name a b e, p))
 
 -- THE SEARCH for the lowest, whatever the definitions are
 pub record Nine (types : List ℕ) (count used i : ℕ) : Type 0 where

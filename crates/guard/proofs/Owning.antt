@@ -5,7 +5,6 @@ use mathlib.Core.List.{List}
 use Prim.Native.Nat.{ℕ, zero, suc, _*_, _^_, _%_, _<_}
 use native.Mathlib.Omega.{arith}
 use native.Mathlib.Decide.{ℕ-discrete}
-use borrow.Author.Tests.{ne-eqb}
 use lib.Bits.{bitOr}
 use lib.ListN.{getD}
 use Rattle.meaning.specs.Base.{find}
@@ -15,25 +14,9 @@ use Rattle.meaning.specs.Formed as Formed
 use Rattle.guard.specs.Sets as Sets
 use Rattle.guard.specs.Sets.{setOf, Low}
 use Rattle.guard.proofs.Bits.{one-shifted}
-use Rattle.guard.proofs.Entries.{entry-name}
+use Rattle.words.proofs.Entries.{kind-name, kind-other, above}
 
--- the entries by their kinds: no kind; star, plus and opt; pair and union
-entry-other : (k a b : ℕ) → 9 < k → entryOf k a b ≡ Types.empty
-unfolding entryOf find
-entry-other k a b l =
-    simp (
-      entryOf,
-      find,
-      ne-eqb k 2 (λ p. omega arith),
-      ne-eqb k 3 (λ p. omega arith),
-      ne-eqb k 4 (λ p. omega arith),
-      ne-eqb k 5 (λ p. omega arith),
-      ne-eqb k 6 (λ p. omega arith),
-      ne-eqb k 7 (λ p. omega arith),
-      ne-eqb k 8 (λ p. omega arith),
-      ne-eqb k 9 (λ p. omega arith),
-    )
-
+-- the entries by their kinds: star, plus and opt; pair and union
 data One (a : ℕ) : Entry → Type 0 where
   star : One a (Types.star a)
   plus : One a (Types.plus a)
@@ -80,17 +63,17 @@ pub low-two : {n : ℕ} (k a b : ℕ) → Low n (entryOf k a b) → 3 < k → k 
 low-two k a b h l m = two-low (entry-two k a b l m) h
 
 pub low-name : {n : ℕ} (k a b : ℕ) → Low n (entryOf k a b) → k ≡ 9 → a < 64
-low-name k a b h e = name-low (subst (Low _) (entry-name k a b e) h)
+low-name k a b h e = name-low (subst (Low _) (kind-name a b e) h)
 
 -- WHAT IS GIVEN is the entry's set
 module _ (masks : List ℕ) (k a b : ℕ) where
   pub set-name : {n : ℕ} → Low n (entryOf k a b) → k ≡ 9 → 1 * 2 ^ a % 2 ^ 64 ≡ setOf masks (entryOf k a b)
   unfolding setOf
-  set-name h e = one-shifted a (low-name k a b h e) ∙ sym (rw (entry-name k a b e))
+  set-name h e = one-shifted a (low-name k a b h e) ∙ sym (rw (kind-name a b e))
 
   pub set-other : 9 < k → 0 ≡ setOf masks (entryOf k a b)
   unfolding setOf
-  set-other l = sym (rw (entry-other k a b l))
+  set-other l = sym (rw (kind-other a b (above l)))
 
   pub set-one : 5 < k → k < 9 → getD masks a 0 ≡ setOf masks (entryOf k a b)
   unfolding setOf

@@ -26,14 +26,7 @@ pub struct Job {
 fn refusal(number: u16, place: usize) -> Job
     ensures { λ r. ⌜ r ≡ jobOf (refused number place) ⌝ }
 {
-    let defs = [0u16; 64];
-    let vars = [0u16; 48];
-    let given = Given {
-        defs,
-        vars,
-        used: 0,
-        declared: 0,
-    };
+    let given = reading::nothing_given();
     let answer = Answer::Refused { number, place };
     Job { answer, given }
 }

@@ -4,10 +4,9 @@ use mathlib.Core.Path.{_≡_, refl, sym, ap, _∙_, subst}
 use mathlib.Core.Bool.{true}
 use mathlib.Core.List.{List, [], _∷_}
 use mathlib.Core.Option.{some}
-use Prim.Native.Nat.{ℕ, zero, suc, _+_, _*_, _<_, _≤_}
+use Prim.Native.Nat.{ℕ, zero, suc, _*_, _<_, _≤_}
 use native.Mathlib.Omega.{arith}
 use native.Mathlib.Decide.{ℕ-discrete}
-use borrow.Author.Tests.{ne-eqb}
 use lib.ListN.{length, getD, take}
 use lib.Seq.{getD-take, length-take-le}
 use Rattle.meaning.specs.Base.{At, In, first, later, find, typeWidth}
@@ -17,22 +16,12 @@ use Rattle.meaning.specs.Reach.{stepsOf}
 use Rattle.meaning.specs.Formed as Formed
 use Rattle.meaning.specs.Formed.{Lower, Formed}
 use Rattle.meaning.proofs.Lists.{absurd-option, at-is, at-getD, in-cons, in-none}
-use Rattle.words.specs.declared.Entry as Words
-use Rattle.words.specs.Tables.{entryAt, tableOf}
+use Rattle.words.specs.Tables.{tableOf}
 use Rattle.words.proofs.Tables.{table-length, table-at}
+use Rattle.words.proofs.Entries.{kind-name, kind-other, above}
 use Rattle.reach.specs.Marks.{Within, Inside, Given}
 
--- the words that `read_entry` gives
-pub entry-read : (types : List ℕ) (e : ℕ) (x : Words.Entry)
-    → x ≡ record { kind = getD types (typeWidth * e) 0; a = getD types (typeWidth * e + 1) 0; b = getD types (typeWidth * e + 2) 0 }
-    → entryOf (x .kind) (x .a) (x .b) ≡ entryAt types e
-entry-read types e x p = ap (λ (w : Words.Entry). entryOf (w .kind) (w .a) (w .b)) p
-
 -- AN ENTRY BY ITS WORDS
-entry-name : (k a b : ℕ) → k ≡ 9 → entryOf k a b ≡ Types.name a
-unfolding entryOf find
-entry-name k a b e = rw e
-
 module _ (D : Defs) (k a b : ℕ) where
   pub steps-element : k ≡ 3 → stepsOf true D (entryOf k a b) ≡ b ∷ []
   unfolding stepsOf entryOf find
@@ -57,7 +46,7 @@ module _ (D : Defs) (k a b : ℕ) where
 
   pub steps-name : k ≡ 9 → stepsOf true D (entryOf k a b) ≡ getD D a 0 ∷ []
   unfolding stepsOf
-  steps-name e = rw (entry-name k a b e)
+  steps-name e = rw (kind-name a b e)
 
   pub steps-below : k < 3 → stepsOf true D (entryOf k a b) ≡ []
   unfolding stepsOf entryOf find
@@ -70,20 +59,8 @@ module _ (D : Defs) (k a b : ℕ) where
       go (suc (suc (suc k))) l = absurd (omega arith)
 
   pub steps-above : 9 < k → stepsOf true D (entryOf k a b) ≡ []
-  unfolding stepsOf entryOf find
-  steps-above l =
-      simp (
-        entryOf,
-        find,
-        ne-eqb k 2 (λ p. omega arith),
-        ne-eqb k 3 (λ p. omega arith),
-        ne-eqb k 4 (λ p. omega arith),
-        ne-eqb k 5 (λ p. omega arith),
-        ne-eqb k 6 (λ p. omega arith),
-        ne-eqb k 7 (λ p. omega arith),
-        ne-eqb k 8 (λ p. omega arith),
-        ne-eqb k 9 (λ p. omega arith),
-      )
+  unfolding stepsOf
+  steps-above l = rw (kind-other a b (above l))
 
 -- WHAT IS MARKED lies in the table
 module _ {n : ℕ} {D : Defs} {x : Entry} (w : Within n D x) where
@@ -98,7 +75,7 @@ module _ {n : ℕ} {D : Defs} {x : Entry} (w : Within n D x) where
 
 pub within-name : {n : ℕ} {D : Defs} (k a b : ℕ) → Within n D (entryOf k a b) → k ≡ 9 → a < length D
 unfolding nameOf
-within-name k a b w e = w .named a (rw (entry-name k a b e))
+within-name k a b w e = w .named a (rw (kind-name a b e))
 
 -- WHAT IS GIVEN is so: an entry of a formed table
 named-is : (x : Entry) (d : ℕ) → nameOf x ≡ some d → x ≡ Types.name d

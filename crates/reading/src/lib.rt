@@ -8,7 +8,7 @@ ghost use Rattle.meaning.specs.Types.{tableWords, base};
 ghost use Rattle.meaning.specs.Records.{Tables, inOrder, hasRoom, declaredAgain, fresh, readFrom, readRecords};
 ghost use Rattle.words.specs.Tables.{stored, varsOf};
 ghost use Rattle.records.specs.Says.{fileOf, sectionOf};
-ghost use Rattle.reading.specs.Says.{caps, readOf, Left};
+ghost use Rattle.reading.specs.Says.{caps, nothingGiven, readOf, Left};
 ghost use Rattle.reading.specs.Steps.{isReadable, Counted, Few, Ready, Placed, counted, Admits, Advances};
 ghost use Rattle.reading.specs.Lists.{lists, Space, Stores, Blank, Begun, Ends};
 use records::File;
@@ -260,18 +260,25 @@ pub struct Read {
     pub given: Given,
 }
 
-// The answer to a refusal, which gives nothing.
-fn refusal(number: u16, place: usize) -> Read
-    ensures { λ r. ⌜ r ≡ readOf (refused number place) ⌝ }
+// What is given beside a refusal: nothing.
+pub fn nothing_given() -> Given
+    ensures { λ r. ⌜ r ≡ nothingGiven ⌝ }
 {
     let defs = [0u16; 64];
     let vars = [0u16; 48];
-    let given = Given {
+    Given {
         defs,
         vars,
         used: 0,
         declared: 0,
-    };
+    }
+}
+
+// The answer to a refusal.
+fn refusal(number: u16, place: usize) -> Read
+    ensures { λ r. ⌜ r ≡ readOf (refused number place) ⌝ }
+{
+    let given = nothing_given();
     let answer = Reading::Refused { number, place };
     Read { answer, given }
 }

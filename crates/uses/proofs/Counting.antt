@@ -10,16 +10,16 @@ use native.Mathlib.Numerals.{add-one}
 use borrow.Author.Tests.{lt-ltb}
 use lib.Dec.{eqb}
 use lib.ListN.{length, getD, length-append}
-use Rattle.meaning.specs.Base.{At, In, count, concatMap, lowest, zeros, codeWidth}
+use Rattle.meaning.specs.Base.{In, count, concatMap, lowest, zeros, codeWidth}
 use Rattle.meaning.specs.Records.{Node, node, isCondition}
 use Rattle.meaning.specs.Formed.{CodeRead}
 use Rattle.meaning.specs.Checks.{hasRoot, usesOf, uses, misused}
-use Rattle.meaning.proofs.Lists.{at-is}
 use Rattle.meaning.proofs.Searches.{lowest-same}
 use Rattle.meaning.proofs.Codes.{low-uses}
 use Rattle.words.specs.Tables.{nodeIn, codeOf}
 use Rattle.words.specs.declared.Node as Words
 use Rattle.words.proofs.Tables.{code-length, code-at}
+use Rattle.words.proofs.Entries.{node-at}
 use Rattle.uses.specs.Counts.{usesIn, Room, Counted, Coded}
 use Rattle.uses.specs.declared.Uses.{Uses}
 use Rattle.uses.specs.declared.Uses.the-variants as Uses
@@ -44,9 +44,6 @@ root-last code nodes w b p r e =
     (ap not (e ∙ ap (λ (x : Words.Node). isCondition (x .kind)) r))
 
 -- ONE NODE
-node-at : (code : List ℕ) (nodes i : ℕ) → i < nodes → At (codeOf code nodes) i (nodeIn code i)
-node-at code nodes i l = rw (code-at code nodes i l) at (at-is (codeOf code nodes) i (node 0 0 0 0) (omega (arith, code-length code nodes)))
-
 uses-few : (u : Uses) → length (usesIn u) ≤ 2
 uses-few Uses.None = omega arith
 uses-few (Uses.One q) = omega arith

@@ -3,3 +3,4 @@ pub mod Stores
 pub mod Tests
 pub mod Rows
 pub mod Tables
+pub mod Entries

@@ -2,7 +2,8 @@
 -- Assumes nothing.
 use mathlib.Core.Path.{_∙_}
 use native.Mathlib.Omega.{arith}
-use Rattle.classes.proofs.Words.{entry-read, plain-class, name-inside, name-class}
+use Rattle.words.proofs.Entries.{entry-read}
+use Rattle.classes.proofs.Words.{plain-class, name-inside, name-class}
 use borrow.Author.Needs.{needs}
 use Rattle.classes.proofs.class_at.Statement.{statement}
 use Rattle.classes.proofs.class_at.Tie as tie

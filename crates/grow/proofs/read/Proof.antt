@@ -3,7 +3,7 @@
 use Rattle.meaning.specs.Types as Types
 use Rattle.meaning.proofs.Lists.{at-is}
 use Rattle.words.proofs.Tables.{table-length}
-use Rattle.classes.proofs.Words.{entry-read}
+use Rattle.words.proofs.Entries.{entry-read}
 use borrow.Author.Needs.{needs}
 use Rattle.grow.proofs.read.Statement.{statement}
 use Rattle.grow.proofs.read.Tie as tie

@@ -1,8 +1,9 @@
 -- `guard::fill_masks` meets its contract: the sets below e are their entries' (`Filling`). Assumes nothing.
+use mathlib.Core.Path.{sym}
 use Prim.Native.Nat.{_-_}
 use Rattle.words.specs.Tables.{tableOf}
 use Rattle.words.proofs.Tables.{table-length}
-use Rattle.guard.proofs.Entries.{entry-read}
+use Rattle.words.proofs.Entries.{entry-read}
 use Rattle.guard.proofs.Filling.{Filling, filling-none, filling-low, filling-more, filling-all}
 use borrow.Author.Needs.{needs}
 use Rattle.guard.proofs.fill_masks.Statement.{statement}
@@ -25,7 +26,7 @@ own-set-requires c κs =
     let loop-test = c .before .before .loop-test in
     let loop = c .before .before .before .loop in
     let start = c .before .before .before .before .before .before in
-    filling-low (table-length _ _) (start .pre .1 .0) (loop .inv) (start .pre .1 .1) (loop-test .taken) (entry-read _ _ _ _ (loop-test .taken) (c .before .read-entry .ensures))
+    filling-low (table-length _ _) (start .pre .1 .0) (loop .inv) (start .pre .1 .1) (loop-test .taken) (sym (entry-read _ _ _ (loop-test .taken) _ (c .before .read-entry .ensures)))
 
 mul-masks : tie.Need-mul-masks Inv-loop μ-loop
 mul-masks c = search needs
@@ -45,7 +46,7 @@ loop-again c =
     let loop-test = c .before .before .before .loop-test in
     let loop = c .before .before .before .before .loop in
     let start = c .before .before .before .before .before .before .before in
-    filling-more (table-length _ _) (start .pre .1 .0) (loop .inv) (start .pre .1 .1) (loop-test .taken) (entry-read _ _ _ _ (loop-test .taken) (read-entry .ensures)) (c .own-set .ensures)
+    filling-more (table-length _ _) (start .pre .1 .0) (loop .inv) (start .pre .1 .1) (loop-test .taken) (sym (entry-read _ _ _ (loop-test .taken) _ (read-entry .ensures))) (c .own-set .ensures)
 
 same-length : tie.Need-same-length Inv-loop μ-loop
 same-length c = c .before .loop .inv .long

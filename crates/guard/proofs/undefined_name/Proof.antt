@@ -1,6 +1,8 @@
 -- `guard::undefined_name` meets its contract: the lowest from here on is the lowest (`Nine`). Assumes nothing.
+use mathlib.Core.Path.{sym}
 use Prim.Native.Nat.{_-_}
-use Rattle.guard.proofs.Entries.{entry-read, Nine, nine-none, nine-more, nine-here, nine-all}
+use Rattle.words.proofs.Entries.{entry-read}
+use Rattle.guard.proofs.Entries.{Nine, nine-none, nine-more, nine-here, nine-all}
 use borrow.Author.Needs.{needs}
 use Rattle.guard.proofs.undefined_name.Statement.{statement}
 use Rattle.guard.proofs.undefined_name.Tie as tie
@@ -25,7 +27,7 @@ returns c =
     let read-entry = c .before .before .read-entry in
     let loop-test = c .before .before .before .loop-test in
     let loop = c .before .before .before .before .loop in
-    nine-here (loop .inv) (loop-test .taken) (entry-read _ _ _ _ (loop-test .taken) (read-entry .ensures)) (c .before .is-undefined .ensures) (c .if1 .taken)
+    nine-here (loop .inv) (loop-test .taken) (sym (entry-read _ _ _ (loop-test .taken) _ (read-entry .ensures))) (c .before .is-undefined .ensures) (c .if1 .taken)
 
 add-i : tie.Need-add-i Inv-loop μ-loop
 add-i c = search needs
@@ -38,7 +40,7 @@ loop-again c =
     let read-entry = c .before .before .read-entry in
     let loop-test = c .before .before .before .loop-test in
     let loop = c .before .before .before .before .loop in
-    nine-more (loop .inv) (loop-test .taken) (entry-read _ _ _ _ (loop-test .taken) (read-entry .ensures)) (c .before .is-undefined .ensures) (c .if1 .left)
+    nine-more (loop .inv) (loop-test .taken) (sym (entry-read _ _ _ (loop-test .taken) _ (read-entry .ensures))) (c .before .is-undefined .ensures) (c .if1 .left)
 
 returns-2 : tie.Need-returns-2 Inv-loop μ-loop
 returns-2 c = nine-all (c .before .loop .inv) (c .loop-test .left)

@@ -1,13 +1,15 @@
 -- `jobs::refusal` meets its contract: by what the answer to a refusal is. Assumes nothing.
-use mathlib.Core.Path.{refl}
-use Rattle.meaning.specs.Base.{zeros}
+use borrow.Author.Needs.{needs}
 use Rattle.jobs.specs.Says.{jobOf}
 use Rattle.jobs.proofs.refusal.Statement.{statement}
 use Rattle.jobs.proofs.refusal.Tie as tie
 
+nothing-given-requires : tie.Need-nothing-given-requires
+nothing-given-requires c κs = search needs
+
 returns : tie.Need-returns
-unfolding jobOf zeros
-returns c = refl
+unfolding jobOf
+returns c = rw (c .nothing-given .ensures)
 
 pub refusal-spec : {M : Type 1} → statement M
-refusal-spec = tie.close (tie.spec returns)
+refusal-spec = tie.close (tie.spec nothing-given-requires returns)

@@ -2,7 +2,7 @@
 use mathlib.Core.Path.{ap, _∙_}
 use Rattle.meaning.specs.Types.{Entry, headOf}
 use Rattle.meaning.specs.Reach.{atomPasses}
-use Rattle.reach.proofs.Steps.{entry-read}
+use Rattle.words.proofs.Entries.{words-make}
 use Rattle.reach.proofs.Atoms.{chosen-over, chosen-atom}
 use borrow.Author.Needs.{needs}
 use Rattle.reach.proofs.chosen.Statement.{statement}
@@ -27,7 +27,7 @@ returns-2 : tie.Need-returns-2
 returns-2 c =
     let if1 = c .before .before .if1 in
     let start = c .before .before .before .before .before .before in
-    chosen-atom _ _ _ _ (if1 .left) ((c .atom-passes .ensures) (c .before .read-entry .result .b) ∙ ap (λ (x : Entry). atomPasses (start .args .test) (headOf x)) (entry-read (start .args .types .now) (start .args .i) _ (c .before .read-entry .ensures)))
+    chosen-atom _ _ _ _ (if1 .left) ((c .atom-passes .ensures) (c .before .read-entry .result .b) ∙ ap (λ (x : Entry). atomPasses (start .args .test) (headOf x)) (words-make (start .args .types .now) (start .args .i) _ (c .before .read-entry .ensures)))
 
 pub chosen-spec : {M : Type 1} → statement M
 chosen-spec =

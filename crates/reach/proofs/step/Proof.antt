@@ -3,7 +3,7 @@ use mathlib.Core.Path.{sym, ap}
 use mathlib.Core.Bool.{true}
 use Rattle.meaning.specs.Reach.{stepsOf}
 use Rattle.reach.proofs.Marks.{marked-by}
-use Rattle.reach.proofs.Steps.{entry-read}
+use Rattle.words.proofs.Entries.{words-make}
 use Rattle.reach.proofs.Sweeps.{step-over, step-visit}
 use borrow.Author.Needs.{needs}
 use Rattle.reach.proofs.step.Statement.{statement}
@@ -24,7 +24,7 @@ read-entry-requires c κs = search needs
 visit-requires : tie.Need-visit-requires
 visit-requires c κs =
     let start = c .before .before .before .before .before .before .before in
-    rw (entry-read (start .args .types .now) (start .args .e) _ (c .before .read-entry .ensures)) (start .pre .1 .1)
+    rw (words-make (start .args .types .now) (start .args .e) _ (c .before .read-entry .ensures)) (start .pre .1 .1)
 
 same-length : tie.Need-same-length
 same-length c = search needs
@@ -35,7 +35,7 @@ returns-2 c =
     let read-entry = c .before .before .before .before .read-entry in
     let if1 = c .before .before .before .before .before .if1 in
     let start = c .before .before .before .before .before .before .before .before .before .before in
-    step-visit _ _ _ _ _ _ (if1 .left) (marked-by (ap (stepsOf true _) (sym (entry-read (start .args .types .now) (start .args .e) _ (read-entry .ensures)))) (visit .ensures))
+    step-visit _ _ _ _ _ _ (if1 .left) (marked-by (ap (stepsOf true _) (sym (words-make (start .args .types .now) (start .args .e) _ (read-entry .ensures)))) (visit .ensures))
 
 pub step-spec : {M : Type 1} → statement M
 step-spec =

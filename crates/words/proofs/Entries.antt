@@ -1,14 +1,22 @@
--- The entry that three words make, kind by kind, and as a view.
+-- The entry that three words make, kind by kind, and as a view; and what stands in a lent table where its words are read.
 -- Assumes nothing.
-use mathlib.Core.Path.{_≡_, refl}
+use mathlib.Core.Path.{_≡_, refl, ap, sym, _∙_}
 use mathlib.Core.Logic.{_≢_}
+use mathlib.Core.List.{List}
 use mathlib.Core.Option.{none}
-use Prim.Native.Nat.{ℕ}
+use Prim.Native.Nat.{ℕ, _+_, _*_, _<_}
+use native.Mathlib.Omega.{arith}
 use native.Mathlib.Decide.{ℕ-discrete}
 use borrow.Author.Tests.{ne-eqb}
-use Rattle.meaning.specs.Base.{find}
+use lib.ListN.{getD}
+use Rattle.meaning.specs.Base.{At, find, typeWidth}
 use Rattle.meaning.specs.Types as Types
-use Rattle.meaning.specs.Types.{Entry, entryOf, nameOf}
+use Rattle.meaning.specs.Types.{Entry, entryOf, nameOf, at}
+use Rattle.meaning.specs.Records.{node}
+use Rattle.meaning.proofs.Lists.{at-is}
+use Rattle.words.specs.declared.Entry as Words
+use Rattle.words.specs.Tables.{entryAt, nodeIn, tableOf, codeOf}
+use Rattle.words.proofs.Tables.{table-length, table-at, code-length, code-at}
 
 module _ {k : ℕ} (a b : ℕ) where
   pub kind-string : k ≡ 2 → entryOf k a b ≡ Types.string
@@ -70,6 +78,10 @@ kind-other {k} a b o =
       ne-eqb k 9 (o .no-name),
     )
 
+pub above : {k : ℕ} → 9 < k → Other k
+above l =
+    record { no-string = λ p. omega arith; no-element = λ p. omega arith; no-pair = λ p. omega arith; no-union = λ p. omega arith; no-star = λ p. omega arith; no-plus = λ p. omega arith; no-opt = λ p. omega arith; no-name = λ p. omega arith }
+
 -- the entry x that the words k, a, b make
 pub data Kinded (k a b : ℕ) : Entry → Type 0 where
   is-string : k ≡ 2 → Kinded k a b Types.string
@@ -114,3 +126,23 @@ plain-of h (is-other o) = refl
 
 pub plain : (k a b : ℕ) → k ≢ 9 → nameOf (entryOf k a b) ≡ none
 plain k a b h = plain-of h (kinded k a b)
+
+-- WORDS THAT ARE READ: what `read_entry` gives at an entry's place
+abbrev pub Read : List ℕ → ℕ → Words.Entry → Type 0
+Read ws e w = w ≡ record { kind = getD ws (typeWidth * e) 0; a = getD ws (typeWidth * e + 1) 0; b = getD ws (typeWidth * e + 2) 0 }
+
+pub words-make : (ws : List ℕ) (e : ℕ) (w : Words.Entry) → Read ws e w → entryOf (w .kind) (w .a) (w .b) ≡ entryAt ws e
+words-make ws e w p = ap (λ (w : Words.Entry). entryOf (w .kind) (w .a) (w .b)) p
+
+pub entry-read : (ws : List ℕ) (n e : ℕ) → e < n → (w : Words.Entry) → Read ws e w → entryOf (w .kind) (w .a) (w .b) ≡ at (tableOf ws n) e
+entry-read ws n e l w p = words-make ws e w p ∙ sym (table-at ws n e l)
+
+-- what stands there
+entry-at : (ws : List ℕ) (n e : ℕ) → e < n → At (tableOf ws n) e (entryAt ws e)
+entry-at ws n e l = rw (table-at ws n e l) at (at-is (tableOf ws n) e Types.empty (omega (arith, table-length ws n)))
+
+pub entry-stands : (ws : List ℕ) (n e : ℕ) → e < n → (w : Words.Entry) → Read ws e w → At (tableOf ws n) e (entryOf (w .kind) (w .a) (w .b))
+entry-stands ws n e l w p = rw p (entry-at ws n e l)
+
+pub node-at : (ws : List ℕ) (n i : ℕ) → i < n → At (codeOf ws n) i (nodeIn ws i)
+node-at ws n i l = rw (code-at ws n i l) at (at-is (codeOf ws n) i (node 0 0 0 0) (omega (arith, code-length ws n)))
