@@ -1,0 +1,2 @@
+-- What a test leaves of an entry.
+pub mod Kept

@@ -1,0 +1,2 @@
+-- What the steps of a walk over a type say.
+pub mod Walks
