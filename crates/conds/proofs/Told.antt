@@ -65,6 +65,10 @@ pub shows-shown : (s : Scope) → Shows s (shown s)
 unfolding shown
 shows-shown s v l = sym (find-below (s .slots) 64 v l)
 
+pub shown-none : (s : Scope) (v : ℕ) → 64 ≤ v → find v (shown s) ≡ none
+unfolding shown
+shown-none s v l = find-above (s .slots) 64 v l
+
 -- 14: a variable that may be bound is free, so `unbind` gives the scope back (`unbind-bind`)
 free-none : (o : Option Records.Var) (n : ℕ) → require (not (isSome o)) 14 n ≡ ok tt → o ≡ none
 free-none none n h = refl
