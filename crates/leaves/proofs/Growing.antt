@@ -1,0 +1,59 @@
+-- A step of the walk grows the table, so that the types of the variables in scope stay among its entries.
+-- Assumes nothing.
+use mathlib.Core.Path.{_≡_, refl, ap, sym, _∙_, subst}
+use mathlib.Core.List.{List}
+use mathlib.Core.Option.{none, some}
+use Prim.Native.Nat.{ℕ, _≤_, _<_}
+use native.Mathlib.Omega.{arith}
+use native.Mathlib.Decide.{ℕ-discrete, decLt}
+use lib.ListN.{length}
+use Rattle.meaning.specs.Base.{Out, ok, refused, find, typeCapacity}
+use Rattle.meaning.specs.Types.{Table, Defs}
+use Rattle.meaning.specs.Records.{Var, typeIn}
+use Rattle.meaning.specs.Queries.{Query, queryAt}
+use Rattle.meaning.specs.Typing as Typing
+use Rattle.meaning.specs.Typing.{State, typeOf}
+use Rattle.meaning.proofs.Lists.{absurd-option}
+use Rattle.meaning.proofs.Ends.{Ends, gives, stops}
+use Rattle.meaning.proofs.Nodes.{InQuery}
+use Rattle.meaning.proofs.Labels.{Labels}
+use Rattle.meaning.proofs.Grow.{Grew, Late, Scoped, type-ends}
+use Rattle.words.specs.Tables.{tableOf}
+use Rattle.words.proofs.Tables.{table-length}
+use Rattle.scope.specs.declared.Scope.{Scope}
+use Rattle.scope.specs.Shows.{Shows}
+use Rattle.conds.proofs.Told.{shown, shows-shown, shown-none}
+use Rattle.grow.specs.Grow.{Ready, Left}
+use Rattle.grow.specs.declared.Made.the-variants as Made
+use Rattle.grow.proofs.Steps.{made, kept-count}
+use Rattle.leaves.specs.declared.Walked.{Walked}
+use Rattle.leaves.specs.Walk.{Within, tabled, walked, Begins, Walks}
+
+ends-tabled : {D : Defs} {room : ℕ} {T : Table} {R : ℕ → ℕ → Type 0} {x : Out (State × ℕ)} → Ends (λ r. Grew D room T (r .0 .types, r .1)) R x → Ends (Grew D room T) R (tabled x)
+ends-tabled (gives h) = gives h
+ends-tabled (stops h) = stops h
+
+-- the scope that the words show has its types among the entries
+shown-scoped : {n : ℕ} (s : Scope) (T : Table) → length T ≡ n → Within s n → Scoped T (shown s)
+shown-scoped {n} s T p w v x e = go (decLt v 64)
+  where
+    go : Dec (v < 64) → typeIn x < length T
+    go (yes l) = omega (arith, p, w .low v x l (shows-shown s v l ∙ e))
+    go (no l) = absurd-option (sym (shown-none s v (omega arith)) ∙ e)
+
+module _ {D : Defs} {ws cs : List ℕ} {count : ℕ} {s : Scope} (b : Begins D ws cs count s) (q : Query) (labels : Labels q) (nodes : InQuery (λ _. Unit {0}) q) where
+  walk-ends : Ends (Grew D (typeCapacity (length ws)) (tableOf ws count)) (Late (λ _. Unit {0})) (walked (typeCapacity (length ws)) D q (shown s) (tableOf ws count))
+  unfolding walked
+  walk-ends =
+      ends-tabled
+      (type-ends (typeCapacity (length ws)) D (omega arith) (λ _. Unit {0}) q (shown s) (record { types = tableOf ws count }) (b .ready .formed) (omega (arith, b .ready .lent .fits, table-length ws count)) (shown-scoped s (tableOf ws count) (table-length ws count) (b .within)) labels nodes)
+
+  pub walk-grew : {us ds : List ℕ} {r : Walked} {l m : ℕ} → r .made ≡ Made.Entry l m → Walks D ws us cs ds count q s r → Grew D (typeCapacity (length ws)) (tableOf ws count) (tableOf us m, l)
+  walk-grew p h = made walk-ends p (h .is (shown s) (shows-shown s))
+
+  pub walk-count : {us ds : List ℕ} {r : Walked} {l m : ℕ} → r .made ≡ Made.Entry l m → Walks D ws us cs ds count q s r → count ≤ m
+  walk-count {us} {m = m} p h = kept-count ws us count m (walk-grew p h .grows)
+
+-- more entries
+pub within-more : {s : Scope} {n m : ℕ} → n ≤ m → Within s n → Within s m
+within-more l w = record { low = λ v x k e. omega (arith, l, w .low v x k e) }
