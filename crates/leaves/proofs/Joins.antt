@@ -1,6 +1,6 @@
 -- What a query's walk leaves, from what the walks of its parts and the rules after them left.
 -- Assumes nothing.
-use mathlib.Core.Path.{_≡_, sym, subst}
+use mathlib.Core.Path.{_≡_, sym}
 use mathlib.Core.List.{List, _∷_}
 use Prim.Native.Nat.{ℕ}
 use lib.ListN.{length}
@@ -20,6 +20,7 @@ use Rattle.grow.specs.declared.Made.{Made}
 use Rattle.grow.specs.declared.Made.the-variants as Made
 use Rattle.grow.proofs.Steps.{left-stop, left-after, after-ok}
 use Rattle.leaves.specs.Walk.{walked}
+use Rattle.leaves.proofs.Steps.{left-as}
 use Rattle.leaves.proofs.Composed.{walked-element, walked-pair, walked-when, walked-when-not, sourced, walked-let, walked-for, loop}
 
 -- the walk of a query, of a table in lent words
@@ -27,7 +28,7 @@ abbrev pub from : Defs → List ℕ → ℕ → Scope → Query → Out (Table �
 from D ws count g q = walked (typeCapacity (length ws)) D q g (tableOf ws count)
 
 left-is : {D : Defs} {ws vs cs es : List ℕ} {o : Made} {x y : Out (Table × ℕ)} → x ≡ y → Left D ws vs cs es o y → Left D ws vs cs es o x
-left-is {D} {ws} {vs} {cs} {es} {o} p h = subst (Left D ws vs cs es o) (sym p) h
+left-is p h = left-as h (sym p)
 
 -- from words ws and classes cs
 module _ (D : Defs) (ws cs : List ℕ) (count : ℕ) (g : Scope) (n : ℕ) where
