@@ -23,8 +23,9 @@ use Rattle.grow.specs.declared.Made.{Made}
 use Rattle.grow.specs.declared.Made.the-variants as Made
 use Rattle.leaves.specs.declared.Walked.{Walked}
 
--- each variable in scope has its type among the first n entries
+-- a scope of 64 words, in which each variable has its type among the first n entries
 pub record Within (s : Scope) (n : ℕ) : Type 0 where
+  pub wide : length (s .slots) ≡ 64
   pub low : (v : ℕ) (x : Records.Var) → v < 64 → slotVar (getD (s .slots) v 0) ≡ some x → typeIn x < n
 
 -- a step of the walk as a rule on the type table, which is all of its state

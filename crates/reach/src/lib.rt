@@ -86,7 +86,7 @@ pub fn reach(types: &[u16], count: usize, defs: &[u16], e: usize, marks: &mut [u
     ensures { λ _. ⌜ Reached (now (types .entry)) count (now (defs .entry)) e (now (marks .exit)) ⌝ }
 {
     words::clear(&mut marks[..count]);
-    marks[e] = 1;
+    marks[e] = 1; // itself
     let mut left = count;
     while 0 < left {
         if !sweep(types, count, defs, marks) {

@@ -6,10 +6,12 @@ use mathlib.Core.Option.{none, some}
 use Prim.Native.Nat.{ℕ, _≤_, _<_}
 use native.Mathlib.Omega.{arith}
 use native.Mathlib.Decide.{ℕ-discrete, decLt}
-use lib.ListN.{length}
+use lib.ListN.{length, getD, set, length-set}
+use lib.Seq.{getD-set-same, getD-set-other}
 use Rattle.meaning.specs.Base.{Out, ok, refused, find, typeCapacity}
 use Rattle.meaning.specs.Types.{Table, Defs}
-use Rattle.meaning.specs.Records.{Var, typeIn}
+use Rattle.meaning.specs.Records as Records
+use Rattle.meaning.specs.Records.{typeIn}
 use Rattle.meaning.specs.Queries.{Query, queryAt}
 use Rattle.meaning.specs.Typing as Typing
 use Rattle.meaning.specs.Typing.{State, typeOf}
@@ -21,13 +23,15 @@ use Rattle.meaning.proofs.Grow.{Grew, Late, Scoped, type-ends}
 use Rattle.words.specs.Tables.{tableOf}
 use Rattle.words.proofs.Tables.{table-length}
 use Rattle.scope.specs.declared.Scope.{Scope}
-use Rattle.scope.specs.Shows.{Shows}
+use Rattle.scope.specs.declared.Var.{Var}
+use Rattle.scope.specs.Shows.{Shows, slotVar, slotOf, varOf, bound}
+use Rattle.scope.proofs.Slots.{slot-says}
 use Rattle.conds.proofs.Told.{shown, shows-shown, shown-none}
 use Rattle.grow.specs.Grow.{Ready, Left}
 use Rattle.grow.specs.declared.Made.the-variants as Made
 use Rattle.grow.proofs.Steps.{made, kept-count}
 use Rattle.leaves.specs.declared.Walked.{Walked}
 use Rattle.leaves.specs.Walk.{Within, tabled, walked, Begins, Walks}
 
 ends-tabled : {D : Defs} {room : ℕ} {T : Table} {R : ℕ → ℕ → Type 0} {x : Out (State × ℕ)} → Ends (λ r. Grew D room T (r .0 .types, r .1)) R x → Ends (Grew D room T) R (tabled x)
 ends-tabled (gives h) = gives h
@@ -56,4 +60,16 @@ module _ {D : Defs} {ws cs : List ℕ} {count : ℕ} {s : Scope} (b : Begins D w
 
 -- more entries
 pub within-more : {s : Scope} {n m : ℕ} → n ≤ m → Within s n → Within s m
-within-more l w = record { low = λ v x k e. omega (arith, l, w .low v x k e) }
+within-more l w = record { wide = w .wide; low = λ v x k e. omega (arith, l, w .low v x k e) }
+
+-- one more variable, of a type among the entries
+pub within-bind : {s : Scope} {n v : ℕ} (x : Var) (y : Records.Var) → varOf x ≡ some y → typeIn y < n → v < 64 → Within s n → Within (bound s v (slotOf x)) n
+within-bind {s} {n} {v} x y e l k w =
+    record { wide = length-set (s .slots) v (slotOf x) ∙ w .wide; low = λ i z j f. go i z j f (ℕ-discrete i v) }
+  where
+    go : (i : ℕ) (z : Records.Var) → i < 64 → slotVar (getD (set (s .slots) v (slotOf x)) i 0) ≡ some z → Dec (i ≡ v) → typeIn z < n
+    go i z j f (yes p) =
+        let same : some y ≡ some z = sym (slot-says x ∙ e) ∙ sym (ap slotVar (rw p (getD-set-same (s .slots) v (slotOf x) 0 (omega (arith, w .wide))))) ∙ f in
+        let q : y ≡ z = cc in
+        subst (λ (u : Records.Var). typeIn u < n) q l
+    go i z j f (no p) = w .low i z j (sym (ap slotVar (getD-set-other (s .slots) v i (slotOf x) 0 p)) ∙ f)

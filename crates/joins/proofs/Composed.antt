@@ -13,8 +13,9 @@ use Rattle.meaning.specs.Queries as Queries
 use Rattle.meaning.specs.Queries.{Query, Cond}
 use Rattle.meaning.specs.Rules.{after, fromOut, Rule, append, prime, times}
 use Rattle.meaning.specs.Typing.{Scope, State, Walk, leaving, onTypes, unbound, typeCond, forRule, typeOf}
 use Rattle.leaves.specs.Walk.{tabled, walked}
 use Rattle.leaves.proofs.Steps.{tabled-leaving}
+use Rattle.joins.specs.Joins.{sourced, loop}
 
 -- a step after another
 step : (x : Out (State × ℕ)) (f : ℕ → Walk ℕ) (h : ℕ → Rule ℕ) → ((e : ℕ) (t : Table) → tabled (f e (record { types = t })) ≡ h e t) → tabled (after x f) ≡ after (tabled x) h
@@ -45,36 +46,29 @@ module _ (room : ℕ) (D : Defs) (n : ℕ) (g : Scope) (t : Table) where
   unfolding walked typeOf
   walked-when-not p q c = rw c
 
-  -- LET AND FOR: their source is walked, and their variable has to be free (14)
-  unfoldable pub sourced : ℕ → Query → Out (Table × ℕ)
-  sourced v p = after (walked room D p g t) (λ e. fromOut (Base._>>=_ (unbound n g v) λ _. ok e))
-
+  -- LET AND FOR
   freed : (x : Out (State × ℕ)) (o : Out (Unit {0})) (f : ℕ → Walk ℕ) (h : ℕ → Rule ℕ) → ((e : ℕ) (t : Table) → tabled (f e (record { types = t })) ≡ h e t)
       → tabled (after x (λ e s. after (fromOut o s) (λ _. f e))) ≡ after (after (tabled x) (λ e. fromOut (Base._>>=_ o λ _. ok e))) h
   freed (ok r) (ok u) f h k = k (r .1) (r .0 .types)
   freed (ok r) (refused m place) f h k = refl
   freed (refused m place) o f h k = refl
 
-  pub walked-let : (v : ℕ) (p q : Query) → walked room D (Queries.let-in n v p q) g t ≡ after (sourced v p) (λ e. walked room D q ((v, Records.forest e) ∷ g))
+  pub walked-let : (v : ℕ) (p q : Query) → walked room D (Queries.let-in n v p q) g t ≡ after (sourced room D n g v p t) (λ e. walked room D q ((v, Records.forest e) ∷ g))
   unfolding walked typeOf sourced
   walked-let v p q =
       freed (typeOf room D p g (record { types = t })) (unbound n g v) (λ e. typeOf room D q ((v, Records.forest e) ∷ g)) (λ e. walked room D q ((v, Records.forest e) ∷ g)) (λ e t. refl)
-
-  -- for: its variable has the prime of the source's type, and the body's type is repeated as often as the source has trees
-  abbrev pub loop : ℕ → Query → ℕ → Rule ℕ
-  loop v q e = λ t. after (prime room n (shape D t e) t) (λ x s. after (walked room D q ((v, Records.tree x) ∷ g) s) (λ u. times room n u (quant (shape D t e))))
 
   primed : (x : Out (Table × ℕ)) (s : State) (f : ℕ → Walk ℕ) (h : ℕ → Rule ℕ) → ((e : ℕ) (t : Table) → tabled (f e (record { types = t })) ≡ h e t) → tabled (after (leaving s x) f) ≡ after x h
   primed (ok r) s f h k = k (r .1) (r .0)
   primed (refused m place) s f h k = refl
 
-  for-loop : (v : ℕ) (q : Query) (e : ℕ) (t : Table) → tabled (forRule room D n e (λ x. typeOf room D q ((v, Records.tree x) ∷ g)) (record { types = t })) ≡ loop v q e t
+  for-loop : (v : ℕ) (q : Query) (e : ℕ) (t : Table) → tabled (forRule room D n e (λ x. typeOf room D q ((v, Records.tree x) ∷ g)) (record { types = t })) ≡ loop room D n g v q e t
   unfolding walked forRule
   for-loop v q e t =
       primed (prime room n (shape D t e) t) (record { types = t }) (λ x s. after (typeOf room D q ((v, Records.tree x) ∷ g) s) (λ u. onTypes (times room n u (quant (shape D t e))))) (λ x s. after (walked room D q ((v, Records.tree x) ∷ g) s) (λ u. times room n u (quant (shape D t e))))
       (λ x s. then (typeOf room D q ((v, Records.tree x) ∷ g) (record { types = s })) (λ u. times room n u (quant (shape D t e))))
 
-  pub walked-for : (v : ℕ) (p q : Query) → walked room D (Queries.for n v p q) g t ≡ after (sourced v p) (loop v q)
+  pub walked-for : (v : ℕ) (p q : Query) → walked room D (Queries.for n v p q) g t ≡ after (sourced room D n g v p t) (loop room D n g v q)
   unfolding walked typeOf sourced
   walked-for v p q =
-      freed (typeOf room D p g (record { types = t })) (unbound n g v) (λ e. forRule room D n e (λ x. typeOf room D q ((v, Records.tree x) ∷ g))) (loop v q) (for-loop v q)
+      freed (typeOf room D p g (record { types = t })) (unbound n g v) (λ e. forRule room D n e (λ x. typeOf room D q ((v, Records.tree x) ∷ g))) (loop room D n g v q) (for-loop v q)

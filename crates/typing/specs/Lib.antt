@@ -1,0 +1,2 @@
+-- What the typing walk asks and leaves.
+pub mod Walking
