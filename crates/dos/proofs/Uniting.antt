@@ -13,7 +13,6 @@ use Rattle.meaning.specs.Rules.{after, append, unions}
 use Rattle.words.specs.Tables.{tableOf}
 use Rattle.reach.specs.Atoms.{picked, Next}
 use Rattle.reach.proofs.Atoms.{next-to, unions-one, unions-none}
-use Rattle.reach.proofs.Growing.{next-first}
 use Rattle.grow.specs.Grow.{Ready, Left, New}
 use Rattle.grow.specs.declared.Made.{Made}
 use Rattle.grow.specs.declared.Made.the-variants as Made
@@ -88,4 +87,4 @@ module _ {D : Defs} {ws cs : List ℕ} {count : ℕ} {f : ℕ → Bool} {node x 
 -- the next one that is picked in the table as it is now is the next one that was picked in the table at first
 pub uniting-next : {D : Defs} {ws cs : List ℕ} {count : ℕ} (test : ℕ) (m : List Bool) {f : ℕ → Bool} {node x : ℕ} {us ds : List ℕ} {u n i y : ℕ}
     → Uniting D ws cs count f node x us ds u n i → Next (picked test (tableOf us count) m) count i y → Next (picked test (tableOf ws count) m) count i y
-uniting-next test m s q = next-first test m (s .first) q
+uniting-next test m s q = rw (s .first) at q

@@ -26,7 +26,7 @@ use Rattle.jobs.specs.Says.{jobOf}
 use Rattle.emberstitch.specs.Promises.{ReadJob}
 
 -- P10's tables: entries 0 and 1, variable 0 of type 1, and one node
-P10-tables : Tables
+unfoldable pub P10-tables : Tables
 P10-tables = record { types = base; defs = []; vars = (0, Records.forest 1) ∷ []; code = node 36 0 0 0 ∷ []; result = none; section = Records.query }
 
 keeps-ok : {a : Tables} {o : Out Tables} → Keeps (ok a) o → o ≡ ok a

@@ -1,3 +1,4 @@
 -- What the promises rule out.
 pub mod Once
 pub mod Jobs
+pub mod Typings

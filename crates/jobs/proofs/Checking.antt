@@ -30,7 +30,7 @@ use Rattle.jobs.specs.declared.Job.{Job}
 use Rattle.jobs.specs.Says.{jobOf, Left, Settled}
 
 -- a padded list is no shorter than what it holds
-padded-most : (n : ℕ) (ws : List ℕ) → length ws ≤ length (padded n ws)
+pub padded-most : (n : ℕ) (ws : List ℕ) → length ws ≤ length (padded n ws)
 padded-most n ws = omega (arith, length-append ws (zeros (n - length ws)))
 
 defs-lent : (D : List ℕ) → take (length D) (padded 64 D) ≡ D
@@ -59,7 +59,7 @@ tables-stored : (tw cw : ℕ) (t : Tables) → Stored (padded tw (tableWords (t 
 tables-stored tw cw t = record { types-are = table-lent tw (t .types); defs-are = defs-lent (t .defs); vars-are = vars-lent 48 (t .vars); code-are = code-lent cw (t .code) }
 
 module _ {tw cw count nodes : ℕ} {u w : List ℕ} {g : Given} {t : Tables} (h : Held tw cw u w g count nodes t) where
-  held-ready : {at : ℕ} → Read (capsOf tw cw) at t → Ready u count (g .defs) (g .used) (g .vars) (g .declared) w nodes
+  pub held-ready : {at : ℕ} → Read (capsOf tw cw) at t → Ready u count (g .defs) (g .used) (g .vars) (g .declared) w nodes
   held-ready r = rw (h .types, h .code, h .given, h .entries, h .nodes-are) (tables-ready tw cw r)
 
   pub held-stored : Stored u count (g .defs) (g .used) (g .vars) (g .declared) w nodes t

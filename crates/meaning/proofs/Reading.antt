@@ -93,7 +93,7 @@ types-more {T = T} {x = x} h room low =
 defs-wider : {n m : ℕ} {D : Defs} → n ≤ m → DefsRead n D → DefsRead m D
 defs-wider w h = record { few = h .few; defined = λ d c p. omega (arith, h .defined d c p) }
 
-vars-wider : {n m : ℕ} {vars : List (ℕ × Var)} → n ≤ m → VarsRead n vars → VarsRead m vars
+pub vars-wider : {n m : ℕ} {vars : List (ℕ × Var)} → n ≤ m → VarsRead n vars → VarsRead m vars
 vars-wider w h = record { few = h .few; low = h .low; scoped = λ i v x p. omega (arith, h .scoped i v x p); once = h .once }
 
 defs-more : {n : ℕ} {D : Defs} {c : ℕ} → DefsRead n D → length D < 64 → c < n → DefsRead n (D ++ (c ∷ []))

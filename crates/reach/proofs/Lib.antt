@@ -4,4 +4,3 @@ pub mod Steps
 pub mod Sweeps
 pub mod Reaching
 pub mod Atoms
-pub mod Growing

@@ -92,7 +92,7 @@ fn variable(kind: u16, e: u16) -> Var
 // The scope of the declared variables.
 pub fn declared(vars: &[u16], count: usize) -> Scope
     requires { ⌜ (3 * count ≤ length (now vars)) × VarsRead 4096 (varsOf (now vars) count) ⌝ }
-    ensures { λ r. ⌜ Shows r (varsOf (now (vars .entry)) count) ⌝ }
+    ensures { λ r. ⌜ (length (r .slots) ≡ 64) × Shows r (varsOf (now (vars .entry)) count) ⌝ }
 {
     let mut scope = Scope { slots: [0; 64] };
     let mut i = count;

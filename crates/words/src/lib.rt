@@ -8,7 +8,7 @@ ghost use Rattle.meaning.specs.Base.{word, bytesOf, zeros, typeWidth, codeWidth
 ghost use Rattle.meaning.specs.Forests.{passes};
 ghost use Rattle.meaning.specs.Records.{isCondition};
 ghost use Rattle.words.specs.Tables.{stored};
-ghost use Rattle.words.specs.Says.{headOf, Appends};
+ghost use Rattle.words.specs.Says.{headOf};
 
 // The number that a word holds.
 pub fn wide(x: u16) -> usize
@@ -128,24 +128,6 @@ pub fn put_node(t: &mut [u16], n: usize, kind: u16, a: u16, b: u16, c: u16)
     t[at + 1] = a;
     t[at + 2] = b;
     t[at + 3] = c;
-}
-
-// Where an entry was added, or that the table is full.
-pub enum Added {
-    At(usize),
-    Full,
-}
-
-// One more entry behind the first `count`.
-pub fn append_entry(t: &mut [u16], count: usize, kind: u16, a: u16, b: u16) -> Added
-    ensures { λ r. ⌜ Appends (now (t .entry)) count kind a b r (now (t .exit)) ⌝ }
-{
-    let room = type_room(t);
-    if count < room {
-        put_entry(t, count, kind, a, b);
-        return Added::At(count);
-    }
-    Added::Full
 }
 
 // Zeros in the whole of a table.

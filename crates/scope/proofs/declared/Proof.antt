@@ -65,7 +65,7 @@ loop-again : tie.Need-loop-again Inv-loop μ-loop
 loop-again c = turn-shows _ _ (c .before .before .before .before .before .before .before .before .before .pre .1) _ (c .before .before .before .before .before .before .before .loop .scope) _ _ _ (search needs) (search needs) (c .before .before .before .variable .ensures) (c .before .wide .ensures) (c .bind .ensures) (c .before .before .before .before .before .before .before .loop .inv .1) (c .before .before .before .before .before .before .before .loop .inv .2)
 
 returns : tie.Need-returns Inv-loop μ-loop
-returns c = let none : c .before .loop .i ≡ 0 = search needs in rw none at (c .before .loop .inv .2)
+returns c = let none : c .before .loop .i ≡ 0 = search needs in (c .before .loop .inv .1, rw none at (c .before .loop .inv .2))
 
 pub declared-spec : {M : Type 1} → statement M
 declared-spec =

@@ -1,0 +1,2 @@
+-- Laws of lines and pages.
+pub mod Lines

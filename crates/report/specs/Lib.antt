@@ -1,0 +1,2 @@
+-- The lines of a report, as bytes.
+pub mod Text

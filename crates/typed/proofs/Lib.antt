@@ -1,0 +1,3 @@
+-- Laws of typing a job.
+pub mod Beginning
+pub mod Leaving

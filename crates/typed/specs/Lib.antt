@@ -1,0 +1,2 @@
+-- What typing a job answers and leaves, in document 01's terms.
+pub mod Says
