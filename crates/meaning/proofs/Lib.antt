@@ -19,6 +19,7 @@ pub mod Codes
 pub mod Larger
 pub mod Prefix
 pub mod FileLength
+pub mod Written
 pub mod Grow
 pub mod Roomier
 pub mod Running
@@ -31,4 +32,5 @@ pub mod DosMembers
 pub mod Sound
 pub mod Jobs
 pub mod JobSound
+pub mod RoundTrip
 pub mod Witness

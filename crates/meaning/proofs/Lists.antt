@@ -7,7 +7,7 @@ use mathlib.Core.Option.{none, some}
 use Prim.Native.Nat.{ℕ, suc, zero, _≤_, _<_}
 use native.Mathlib.Omega.{arith}
 use lib.ListN.{length, getD, getElem?, length-append}
-use Rattle.meaning.specs.Base.{At, In, first, later}
+use Rattle.meaning.specs.Base.{At, In, first, later, concatMap}
 
 pub absurd-option : {A B : Type 0} {x : A} → none ≡ some x → B
 absurd-option p = let z : _≡_ {A = ℕ} 0 1 = cc in absurd (omega arith)
@@ -83,6 +83,12 @@ append-parts (x ∷ a) (y ∷ c) b d n e = go (append-parts a c b d (omega arith
   where
     go : (a ≡ c) × (b ≡ d) → (x ∷ a ≡ y ∷ c) × (b ≡ d)
     go p = (cc, p .1)
+
+-- the parts of two lists joined are those of the first, then those of the second
+pub concat-append : {A B : Type 0} (f : A → List B) (l m : List A) → concatMap f (l ++ m) ≡ concatMap f l ++ concatMap f m
+unfolding concatMap
+concat-append f [] m = refl
+concat-append f (x ∷ l) m = rw (append-assoc, concat-append f l m)
 
 -- IN
 pub in-left : {A : Type 0} {x : A} {l : List A} (m : List A) → In x l → In x (l ++ m)

@@ -54,6 +54,13 @@ lowest-none f n e i l = go (lowest-is f 0 n) e
     go (found a b c d) e = absurd-option (sym e)
     go (missing d) e = d i (omega arith) (omega arith)
 
+pub none-lowest : (f : ℕ → Bool) (n : ℕ) → ((i : ℕ) → i < n → f i ≡ false) → lowest f n ≡ none
+none-lowest f n h = go (lowest-is f 0 n)
+  where
+    go : {o : Option ℕ} → Lowest f 0 n o → o ≡ none
+    go (found {p = p} a b c d) = never (sym (h p (omega arith)) ∙ c)
+    go (missing d) = refl
+
 pub lowest-at : (f : ℕ → Bool) (n p : ℕ) → lowest f n ≡ some p → (p < n) × (f p ≡ true)
 lowest-at f n p e = go (lowest-is f 0 n) e
   where

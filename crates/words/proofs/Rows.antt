@@ -1,7 +1,7 @@
 -- A lent table of rows, each of the same width: what stands at a row's place, and one row more. Shown once over the width; type entries, query nodes
 -- and forest entries are instances.
 -- Assumes nothing.
-use mathlib.Core.Path.{_≡_, sym, ap, _∙_}
+use mathlib.Core.Path.{_≡_, refl, sym, ap, _∙_}
 use mathlib.Core.List.{List, [], _∷_, _++_, append-assoc, append-nil}
 use Prim.Native.Nat.{ℕ, zero, suc, _+_, _*_, _-_, _≤_, _<_}
 use native.Mathlib.Omega.{arith}
@@ -20,6 +20,13 @@ unfolding zeros
 drop-zeros zero n = ap (λ (m : ℕ). replicate m 0) {x = n} {y = n - 0} (omega arith)
 drop-zeros (suc k) zero = ap (λ (m : ℕ). replicate m 0) {x = 0} {y = 0 - suc k} (omega arith)
 drop-zeros (suc k) (suc n) = drop-zeros k n ∙ ap (λ (m : ℕ). replicate m 0) {x = n - k} {y = suc n - suc k} (omega arith)
+
+-- what is stored behind the words that a lent list holds stands behind them
+pub stored-behind : (n : ℕ) (ws vs : List ℕ) → length ws + length vs ≤ n → stored (padded n ws) (length ws) vs ≡ padded n (ws ++ vs)
+unfolding stored
+stored-behind n ws vs h =
+    rw (take-at ws (zeros (n - length ws)) (length ws) refl, drop-append-add ws (zeros (n - length ws)) (length vs), drop-zeros (length vs) (n - length ws))
+    (sym (append-assoc ws vs _) ∙ ap (λ (k : ℕ). (ws ++ vs) ++ zeros k) {x = n - length ws - length vs} {y = n - length (ws ++ vs)} (omega (arith, length-append ws vs)))
 
 module _ {A : Type 0} (f : A → List ℕ) (w : ℕ) (wide : (x : A) → length (f x) ≡ w) where
   pub rows-length : (T : List A) → length (concatMap f T) ≡ w * length T
@@ -52,17 +59,6 @@ module _ {A : Type 0} (f : A → List ℕ) (w : ℕ) (wide : (x : A) → length 
 
   -- one row more, stored behind the others
   pub row-more : (n : ℕ) (T : List A) (x : A) → w * length T + w ≤ n → stored (padded n (concatMap f T)) (w * length T) (f x) ≡ padded n (concatMap f (T ++ (x ∷ [])))
-  unfolding stored
   row-more n T x h =
-      let ws = concatMap f T in
       let long = rows-length T in
-      rw (take-at ws (zeros (n - length ws)) (w * length T) long)
-      (ap (λ (r : List ℕ). ws ++ (f x ++ r)) rest ∙ sym (append-assoc ws (f x) _) ∙ ap (λ (r : List ℕ). r ++ zeros (n - length (concatMap f (T ++ (x ∷ []))))) (sym (rows-more T x)))
-    where
-      rest : drop (w * length T + length (f x)) (concatMap f T ++ zeros (n - length (concatMap f T))) ≡ zeros (n - length (concatMap f (T ++ (x ∷ []))))
-      rest =
-          let ws = concatMap f T in
-          let long = rows-length T in
-          let k : w * length T + length (f x) ≡ length ws + w = omega (arith, wide x) in
-          rw (k, drop-append-add ws (zeros (n - length ws)) w, drop-zeros w (n - length ws))
-          (ap zeros {x = n - length ws - w} {y = n - length (concatMap f (T ++ (x ∷ [])))} (omega (arith, ap length (rows-more T x), length-append ws (f x), wide x)))
+      rw (← long, rows-more T x) (stored-behind n (concatMap f T) (f x) (omega (arith, wide x)))
