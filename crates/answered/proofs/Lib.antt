@@ -1,0 +1,2 @@
+-- Laws of answering a job.
+pub mod Leaving

@@ -1,0 +1,2 @@
+-- What answering a job answers and leaves.
+pub mod Says

@@ -1,0 +1,2 @@
+-- Laws of reading an answer file.
+pub mod Judging

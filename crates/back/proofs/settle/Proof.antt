@@ -1,0 +1,43 @@
+-- `back::settle` meets its contract: the table stays, or is cleared. Assumes nothing.
+use mathlib.Core.Path.{ap, sym, _∙_}
+use Rattle.back.specs.Says.{verdict}
+use Rattle.back.proofs.Judging.{passed-leaves, refused-leaves}
+use borrow.Author.Needs.{needs}
+use native.Mathlib.Omega.{arith}
+use Rattle.back.proofs.settle.Statement.{statement}
+use Rattle.back.proofs.settle.Tie as tie
+
+judge-requires : tie.Need-judge-requires
+judge-requires c κs = search needs
+
+enum-told : tie.Need-enum-told
+enum-told c = search needs
+
+wide-requires : tie.Need-wide-requires
+wide-requires c κs = search needs
+
+enum-known-number : tie.Need-enum-known-number
+enum-known-number c = search needs
+
+clear-requires : tie.Need-clear-requires
+clear-requires c κs = search needs
+
+refusal-requires : tie.Need-refusal-requires
+refusal-requires c κs = search needs
+
+same-length : tie.Need-same-length
+same-length c = search needs
+
+returns : tie.Need-returns
+returns c =
+    record { leaves = λ t holds. rw (c .wide .ensures) (passed-leaves _ holds (sym (ap verdict ((c .before) .enum-told .given .1)) ∙ (c .before .before .before) .judge .ensures)) }
+
+same-length-2 : tie.Need-same-length-2
+same-length-2 c = search needs
+
+returns-2 : tie.Need-returns-2
+returns-2 c =
+    record { leaves = λ t holds. refused-leaves _ holds (sym (ap verdict ((c .before .before .before .before .before .before) .number .given .1)) ∙ (c .before .before .before .before .before .before .before .before) .judge .ensures) (c .refusal .ensures) ((c .before .before .before) .clear .ensures) }
+
+pub settle-spec : {M : Type 1} → statement M
+settle-spec = tie.close (tie.spec judge-requires enum-told wide-requires enum-known-number clear-requires refusal-requires same-length returns same-length-2 returns-2)

@@ -1,0 +1,2 @@
+-- What reading an answer file answers and leaves.
+pub mod Says
