@@ -2,3 +2,5 @@
 pub mod Once
 pub mod Jobs
 pub mod Typings
+pub mod Calls
+pub mod RoundTrip

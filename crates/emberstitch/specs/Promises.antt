@@ -2,16 +2,24 @@
 -- Assumes nothing.
 use mathlib.Core.Path.{_≡_}
 use mathlib.Core.List.{List}
-use Prim.Native.Nat.{ℕ}
+use Prim.Native.Nat.{ℕ, _+_, _*_, _<_}
 use Rattle.meaning.specs.Base.{Out, capsOf}
 use Rattle.meaning.specs.Records.{Tables}
 use Rattle.meaning.specs.Typing as Typing
 use Rattle.meaning.specs.Typing.{readTypes, readCode, typedTypes, typedCode, typeJob}
 use Rattle.meaning.specs.Checks.{readJob}
+use Rattle.meaning.specs.Answers as Answers
+use Rattle.meaning.specs.Answers.{answerJob, answerBytes, backTables, readAnswer, full, packed}
 use Rattle.jobs.specs.declared.Job.{Job}
 use Rattle.jobs.specs.Says.{jobOf}
 use Rattle.typed.specs.declared.Typed.{Typed}
 use Rattle.typed.specs.Says.{typedOf}
+use Rattle.answered.specs.declared.Answer.{Answer}
+use Rattle.answered.specs.declared.Answer.the-variants.{Accepted, Refused}
+use Rattle.answered.specs.declared.Answered.{Answered}
+use Rattle.answered.specs.Says.{answeredOf}
+use Rattle.back.specs.declared.Back.{Back}
+use Rattle.back.specs.Says.{backOf}
 
 -- what reading gives for these bytes, with type and query tables of so many words
 abbrev pub jobRead : List ℕ → ℕ → ℕ → Out Tables
@@ -32,3 +40,39 @@ pub record TypeJob (job : List ℕ) (types query : ℕ) (r : Typed) (typesLeft q
   pub answer : r ≡ typedOf (jobTyped job types query)
   pub types-left : typesLeft ≡ typedTypes types (jobTyped job types query)
   pub query-left : queryLeft ≡ typedCode query (jobTyped job types query)
+
+-- what answering gives for them, with a buffer of so many bytes
+abbrev pub jobAnswered : List ℕ → ℕ → ℕ → ℕ → Out Answers.Answered
+jobAnswered job types query bytes = answerJob (capsOf types query) bytes job
+
+-- ANSWERING A JOB: the answer is 01's; accepted, the tables are as typing leaves them and the buffer has the answer file, then zeros; refused, all are
+-- zero
+pub record AnswerJob (job : List ℕ) (types query bytes : ℕ) (r : Answered) (typesLeft queryLeft answerLeft : List ℕ) : Type 0 where
+  pub answer : r ≡ answeredOf (jobAnswered job types query bytes)
+  pub types-left : typesLeft ≡ typedTypes types (Answers.typedOf (jobAnswered job types query bytes))
+  pub query-left : queryLeft ≡ typedCode query (Answers.typedOf (jobAnswered job types query bytes))
+  pub answer-left : answerLeft ≡ answerBytes bytes (jobAnswered job types query bytes)
+
+-- what reading an answer file gives, with a type table of so many words; such a file has no query
+abbrev pub fileRead : List ℕ → ℕ → Out Answers.Back
+fileRead file types = readAnswer (capsOf types 0) file
+
+-- READING AN ANSWER FILE: the answer is 01's; accepted, the table has the entries, then zeros; refused, it is zero
+pub record ReadAnswer (file : List ℕ) (types : ℕ) (r : Back) (typesLeft : List ℕ) : Type 0 where
+  pub answer : r ≡ backOf (fileRead file types)
+  pub types-left : typesLeft ≡ readTypes types (backTables (fileRead file types))
+
+-- THE C CALL: the number is 01's, "the answer's length or 2^32 times the refusal plus the place", of answering at full capacity; accepted, the buffer
+-- has the answer file, then zeros; refused, it is zero
+pub record Call (job : List ℕ) (bytes r : ℕ) (answerLeft : List ℕ) : Type 0 where
+  pub number : r ≡ packed (answerJob full bytes job)
+  pub answer-left : answerLeft ≡ answerBytes bytes (answerJob full bytes job)
+
+-- the number of an answer, and when it fits 64 bits
+abbrev pub numberOf : Answer → ℕ
+numberOf (Accepted length result types nodes) = length
+numberOf (Refused number place) = 4294967296 * number + place
+
+abbrev pub Small : Answer → Type 0
+Small (Accepted length result types nodes) = Unit {0}
+Small (Refused number place) = place < 4294967296
