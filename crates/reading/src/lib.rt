@@ -39,7 +39,7 @@ fn in_order(here: Counts, section: u16) -> bool
     ensures { λ r. ⌜ ((t : Tables) → Counted here t → r ≡ inOrder t (sectionOf section)) ⌝ }
 {
     if here.ended {
-        return false;
+        return false; // nothing comes after record 80
     }
     here.section <= section
 }
