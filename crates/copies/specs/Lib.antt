@@ -1,0 +1,2 @@
+-- What copies leave.
+pub mod Fills

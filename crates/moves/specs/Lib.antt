@@ -1,0 +1,2 @@
+-- What queries add to their parts.
+pub mod Moves

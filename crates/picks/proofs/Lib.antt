@@ -1,0 +1,2 @@
+-- Laws of the stretches of variables.
+pub mod Looking

@@ -1,0 +1,2 @@
+-- What queries without parts leave.
+pub mod Picks

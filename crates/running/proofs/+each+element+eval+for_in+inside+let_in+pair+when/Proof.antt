@@ -1,0 +1,218 @@
+-- The proof of the cycle of calls +each+element+eval+for_in+inside+let_in+pair+when: each member has its answers in a module below. Assumes nothing.
+mod Base
+mod Each
+mod Element
+mod Eval
+mod ForIn
+mod Inside
+mod LetIn
+mod Pair
+mod When
+use Rattle.running.proofs.each.Reads as each
+use Rattle.running.proofs.+each+element+eval+for_in+inside+let_in+pair+when.Lts-each as each-lts
+use Rattle.running.proofs.element.Reads as element
+use Rattle.running.proofs.+each+element+eval+for_in+inside+let_in+pair+when.Lts-element as element-lts
+use Rattle.running.proofs.eval.Reads as eval
+use Rattle.running.proofs.+each+element+eval+for_in+inside+let_in+pair+when.Lts-eval as eval-lts
+use Rattle.running.proofs.for_in.Reads as for-in
+use Rattle.running.proofs.+each+element+eval+for_in+inside+let_in+pair+when.Lts-for_in as for-in-lts
+use Rattle.running.proofs.inside.Reads as inside
+use Rattle.running.proofs.+each+element+eval+for_in+inside+let_in+pair+when.Lts-inside as inside-lts
+use Rattle.running.proofs.let_in.Reads as let-in
+use Rattle.running.proofs.+each+element+eval+for_in+inside+let_in+pair+when.Lts-let_in as let-in-lts
+use Rattle.running.proofs.pair.Reads as pair
+use Rattle.running.proofs.+each+element+eval+for_in+inside+let_in+pair+when.Lts-pair as pair-lts
+use Rattle.running.proofs.when.Reads as when
+use Rattle.running.proofs.+each+element+eval+for_in+inside+let_in+pair+when.Lts-when as when-lts
+use Rattle.running.proofs.+each+element+eval+for_in+inside+let_in+pair+when.{statement}
+use Rattle.running.proofs.+each+element+eval+for_in+inside+let_in+pair+when.Tie.{close}
+use Base.{μ-each, μ-element, μ-eval, μ-for-in, μ-inside, μ-let-in, μ-pair, μ-when, each-calls, element-calls, eval-calls, for-in-calls, inside-calls, let-in-calls, pair-calls, when-calls, each-at, element-at, eval-at, for-in-at, inside-at, let-in-at, pair-at, when-at}
+
+pub +each+element+eval+for-in+inside+let-in+pair+when-spec : {M : Type 1} → statement M
++each+element+eval+for-in+inside+let-in+pair+when-spec =
+    close μ-each μ-element μ-eval μ-for-in μ-inside μ-let-in μ-pair μ-when (λ t. each-lts.spec (each-calls t)
+    (each-at t)
+    each.Post
+    Each.Inv-loop
+    Each.μ-loop
+    (Each.loop-holds t)
+    (Each.mul-wide t)
+    (Each.add-wide t)
+    (Each.mul-wide-2 t)
+    (Each.slice-read-wide t)
+    (Each.wide-requires t)
+    (Each.add-next t)
+    (Each.add-next-2 t)
+    (Each.mul-top t)
+    (Each.mul-inside t)
+    (Each.sub-inside t)
+    (Each.part-inside-start t)
+    (Each.part-inside-end t)
+    (Each.add-inside t)
+    (Each.inside-requires t)
+    (Each.enum-known-made t)
+    (Each.enum-told t)
+    (Each.same-length t)
+    (Each.same-length-2 t)
+    (Each.returns t)
+    (Each.add-k t)
+    (Each.loop-less t)
+    (Each.loop-again t)
+    (Each.same-length-3 t)
+    (Each.same-length-4 t)
+    (Each.returns-2 t))
+    (λ t. element-lts.spec (element-calls t)
+    (element-at t)
+    element.Post
+    (Element.returns t)
+    (Element.wide-requires t)
+    (Element.sub-eval t)
+    (Element.part-eval-start t)
+    (Element.part-eval-end t)
+    (Element.add-eval t)
+    (Element.eval-requires t)
+    (Element.wrap-requires t)
+    (Element.same-length t)
+    (Element.same-length-2 t)
+    (Element.returns-2 t))
+    (λ t. eval-lts.spec (eval-calls t)
+    (eval-at t)
+    eval.Post
+    (Eval.read-query-requires t)
+    (Eval.enum-told t)
+    (Eval.enum-known-query t)
+    (Eval.text-requires t)
+    (Eval.enum-known-query-2 t)
+    (Eval.element-requires t)
+    (Eval.enum-known-query-3 t)
+    (Eval.pair-requires t)
+    (Eval.enum-known-query-4 t)
+    (Eval.variable-requires t)
+    (Eval.enum-known-query-5 t)
+    (Eval.child-requires t)
+    (Eval.enum-known-query-6 t)
+    (Eval.dos-requires t)
+    (Eval.enum-known-query-7 t)
+    (Eval.for-in-requires t)
+    (Eval.enum-known-query-8 t)
+    (Eval.let-in-requires t)
+    (Eval.enum-known-query-9 t)
+    (Eval.when-requires t)
+    (Eval.returns t)
+    (Eval.same-length t)
+    (Eval.returns-2 t)
+    (Eval.same-length-2 t)
+    (Eval.same-length-3 t)
+    (Eval.returns-3 t)
+    (Eval.same-length-4 t)
+    (Eval.same-length-5 t)
+    (Eval.returns-4 t)
+    (Eval.same-length-6 t)
+    (Eval.same-length-7 t)
+    (Eval.returns-5 t)
+    (Eval.same-length-8 t)
+    (Eval.same-length-9 t)
+    (Eval.returns-6 t)
+    (Eval.same-length-10 t)
+    (Eval.same-length-11 t)
+    (Eval.returns-7 t)
+    (Eval.same-length-12 t)
+    (Eval.same-length-13 t)
+    (Eval.returns-8 t)
+    (Eval.same-length-14 t)
+    (Eval.same-length-15 t)
+    (Eval.returns-9 t)
+    (Eval.same-length-16 t)
+    (Eval.same-length-17 t)
+    (Eval.returns-10 t))
+    (λ t. for-in-lts.spec (for-in-calls t)
+    (for-in-at t)
+    for-in.Post
+    (ForIn.wide-requires t)
+    (ForIn.eval-requires t)
+    (ForIn.enum-known-made t)
+    (ForIn.enum-told t)
+    (ForIn.same-length t)
+    (ForIn.same-length-2 t)
+    (ForIn.returns t)
+    (ForIn.hold-requires t)
+    (ForIn.mul-top t)
+    (ForIn.add-end t)
+    (ForIn.mul-each t)
+    (ForIn.sub-each t)
+    (ForIn.part-each-start t)
+    (ForIn.part-each-end t)
+    (ForIn.each-requires t)
+    (ForIn.down-requires t)
+    (ForIn.same-length-3 t)
+    (ForIn.same-length-4 t)
+    (ForIn.returns-2 t))
+    (λ t. inside-lts.spec (inside-calls t)
+    (inside-at t)
+    inside.Post
+    (Inside.wide-requires t)
+    (Inside.cast-from t)
+    (Inside.cast-to t)
+    (Inside.bind-requires t)
+    (Inside.wide-requires-2 t)
+    (Inside.eval-requires t)
+    (Inside.unbind-requires t)
+    (Inside.same-length t)
+    (Inside.same-length-2 t)
+    (Inside.returns t))
+    (λ t. let-in-lts.spec (let-in-calls t)
+    (let-in-at t)
+    let-in.Post
+    (LetIn.wide-requires t)
+    (LetIn.eval-requires t)
+    (LetIn.enum-known-made t)
+    (LetIn.enum-told t)
+    (LetIn.same-length t)
+    (LetIn.same-length-2 t)
+    (LetIn.returns t)
+    (LetIn.hold-requires t)
+    (LetIn.mul-top t)
+    (LetIn.add-end t)
+    (LetIn.mul-inside t)
+    (LetIn.sub-inside t)
+    (LetIn.part-inside-start t)
+    (LetIn.part-inside-end t)
+    (LetIn.inside-requires t)
+    (LetIn.down-requires t)
+    (LetIn.same-length-3 t)
+    (LetIn.same-length-4 t)
+    (LetIn.returns-2 t))
+    (λ t. pair-lts.spec (pair-calls t)
+    (pair-at t)
+    pair.Post
+    (Pair.wide-requires t)
+    (Pair.eval-requires t)
+    (Pair.enum-known-made t)
+    (Pair.enum-told t)
+    (Pair.same-length t)
+    (Pair.same-length-2 t)
+    (Pair.returns t)
+    (Pair.wide-requires-2 t)
+    (Pair.mul-top t)
+    (Pair.mul-eval t)
+    (Pair.sub-eval t)
+    (Pair.part-eval-start t)
+    (Pair.part-eval-end t)
+    (Pair.add-eval t)
+    (Pair.eval-requires-2 t)
+    (Pair.add-requires t)
+    (Pair.same-length-3 t)
+    (Pair.same-length-4 t)
+    (Pair.returns-2 t))
+    λ t. when-lts.spec (when-calls t)
+    (when-at t)
+    when.Post
+    (When.wide-requires t)
+    (When.judge-requires t)
+    (When.same-length t)
+    (When.returns t)
+    (When.wide-requires-2 t)
+    (When.eval-requires t)
+    (When.same-length-2 t)
+    (When.same-length-3 t)
+    (When.returns-2 t)

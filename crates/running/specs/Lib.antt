@@ -1,0 +1,2 @@
+-- What the evaluator asks and leaves.
+pub mod Evaluates

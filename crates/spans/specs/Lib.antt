@@ -1,0 +1,2 @@
+-- Scopes of stretches, and when they show the forests of an environment.
+pub mod Shows

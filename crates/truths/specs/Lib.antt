@@ -1,0 +1,2 @@
+-- When a condition is told rightly.
+pub mod Tells
