@@ -4,3 +4,4 @@ pub mod Jobs
 pub mod Typings
 pub mod Calls
 pub mod RoundTrip
+pub mod Longest

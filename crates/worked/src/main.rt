@@ -1,7 +1,9 @@
-// Runs vectors through the public operation, each with tables of exactly the lengths that it gives, and prints for each its name and what the typing
-// program prints. Standard input has one vector after the other, in words of two bytes with the low byte first: the lengths of the name, of the type
-// table and of the query table in words, and of the job; then the name and the job.
-// Beside the lines it looks at every word that the operation was lent: all are zero after a refusal, and all behind the entries after an acceptance.
+// Runs vectors through the public operations, each with tables and a buffer of exactly the lengths that it gives, and prints for each its name and what
+// came of it. Typing a job (0): what the typing program prints. Answering a job (1): the answer file's bytes in hex, or the refusal. Reading an answer
+// file (2): the entries as for typing, the definitions, the result, or the refusal.
+// Standard input has one vector after the other, in words of two bytes with the low byte first: the length of the name, the operation, the lengths of the
+// type table and of the query table in words, of the answer buffer and of the job or file in bytes; then the name and the job or file.
+// Beside the lines it looks at all that the operation was lent: it is zero after a refusal, and behind the entries or the answer after an acceptance.
 ghost use mathlib.Core.Path.{_≡_};
 ghost use mathlib.Core.Bool.{true};
 ghost use Prim.Native.Nat.{ℕ, _≤_, _<_};
@@ -9,7 +11,7 @@ ghost use lib.ListN.{length, getD, drop};
 ghost use Rattle.io.specs.Counts.{Counts};
 use libc::STDIN_FILENO;
 use libc::STDOUT_FILENO;
-use typed::Answer;
+use reading::Given;
 
 // Tables that are not zero: what the operation promises of a table it promises of every word. They are longer than any job can use.
 fn old_types() -> [u16; 12300]
@@ -22,6 +24,12 @@ fn old_query() -> [u16; 4104]
     ensures { λ r. ⌜ 4104 ≡ length r ⌝ }
 {
     [43690; 4104]
+}
+
+fn old_answer() -> [u8; 33200]
+    ensures { λ r. ⌜ 33200 ≡ length r ⌝ }
+{
+    [170; 33200]
 }
 
 // Reads the next n bytes of standard input to the front of a buffer, as many as there are and as it holds; the bytes behind stay.
@@ -50,6 +58,20 @@ fn is_clean(words: &[u16], from: usize) -> bool
     true
 }
 
+// Whether all bytes from a place on are zero.
+fn is_clean_after(bytes: &[u8], from: usize) -> bool
+    ensures { λ r. ⌜ (r ≡ true → (k : ℕ) → from ≤ k → k < length (now (bytes .entry)) → getD (now (bytes .entry)) k 0 ≡ 0) ⌝ }
+{
+    let mut i = from;
+    while i < bytes.len() {
+        if bytes[i] != 0 {
+            return false;
+        }
+        i += 1;
+    }
+    true
+}
+
 // Whether all words behind so many entries and so many nodes are zero.
 fn is_clean_behind(types: &[u16], count: usize, query: &[u16], nodes: usize) -> bool {
     if count > 4096 {
@@ -68,8 +90,10 @@ fn tell(clean: bool) {
     if clean {
         return;
     }
-    io::write_all(STDOUT_FILENO, b"tables are not clean\n");
+    io::write_all(STDOUT_FILENO, b"what was lent is not clean\n");
 }
+
+// ---- Typing
 
 // An accepted job: its entries and its result.
 fn accepted(types: &[u16], count: usize, query: &[u16], nodes: usize, result: usize) {
@@ -85,47 +109,189 @@ fn refused(types: &[u16], query: &[u16], number: u16, place: usize) {
 }
 
 // The operation on a job, and what is printed of it.
-fn outcome(job: &[u8], types: &mut [u16], query: &mut [u16]) {
+fn type_it(job: &[u8], types: &mut [u16], query: &mut [u16]) {
     let typed = emberstitch::type_job(job, types, query);
     let answer = typed.answer;
     match answer {
-        Answer::Accepted {
+        typed::Answer::Accepted {
             result,
             types: count,
             nodes,
         } => accepted(types, count, query, nodes, result),
-        Answer::Refused { number, place } => refused(types, query, number, place),
+        typed::Answer::Refused { number, place } => refused(types, query, number, place),
     }
 }
 
-// The same with the front of each table, of so many words. Of a vector with longer tables nothing is printed, so that its lines are missed.
-fn within(job: &[u8], types: &mut [u16], a: usize, query: &mut [u16], b: usize) {
+// ---- Answering
+
+// A byte in hex, after a space.
+fn print_byte(b: u8) {
+    io::write_all(STDOUT_FILENO, b" ");
+    io::print_hex(STDOUT_FILENO, b as u64, 2);
+}
+
+// The first bytes of a buffer, in hex.
+fn print_bytes(bytes: &[u8], n: usize) {
+    let mut i = 0;
+    while i < n {
+        if i >= bytes.len() {
+            return;
+        }
+        print_byte(bytes[i]);
+        i += 1;
+    }
+}
+
+// An answered job: its file.
+fn answered(types: &[u16], count: usize, query: &[u16], nodes: usize, answer: &[u8], n: usize) {
+    io::write_all(STDOUT_FILENO, b"answer");
+    print_bytes(answer, n);
+    io::write_all(STDOUT_FILENO, b"\n");
+    tell(is_clean_behind(types, count, query, nodes));
+    tell(is_clean_after(answer, n));
+}
+
+// The operation on a job, and what is printed of it.
+fn answer_it(job: &[u8], types: &mut [u16], query: &mut [u16], answer: &mut [u8]) {
+    let told = emberstitch::answer_job(job, types, query, answer);
+    let kind = told.answer;
+    match kind {
+        answered::Answer::Accepted {
+            length,
+            result: _,
+            types: count,
+            nodes,
+        } => answered(types, count, query, nodes, answer, length),
+        answered::Answer::Refused { number, place } => {
+            refused(types, query, number, place);
+            tell(is_clean_after(answer, 0));
+        }
+    }
+}
+
+// ---- Reading an answer file
+
+// A definition: its number and its type.
+fn print_definition(d: usize, e: u16) {
+    io::write_all(STDOUT_FILENO, b"definition ");
+    io::print_decimal(STDOUT_FILENO, d as u64);
+    io::write_all(STDOUT_FILENO, b" ");
+    io::print_decimal(STDOUT_FILENO, e as u64);
+    io::write_all(STDOUT_FILENO, b"\n");
+}
+
+// The first definitions, a line for each.
+fn print_definitions(defs: &[u16], n: usize) {
+    let mut d = 0;
+    while d < n {
+        if d >= defs.len() {
+            return;
+        }
+        print_definition(d, defs[d]);
+        d += 1;
+    }
+}
+
+// Whether nothing is given behind the definitions.
+fn is_given_clean(given: Given) -> bool {
+    let defs = given.defs;
+    let vars = given.vars;
+    if is_clean(&defs, given.used) {
+        return is_clean(&vars, 0);
+    }
+    false
+}
+
+// An accepted file: its entries, its definitions and its result.
+fn read_back(types: &[u16], count: usize, given: Given, result: usize) {
+    let defs = given.defs;
+    report::table(types, count);
+    print_definitions(&defs, given.used);
+    report::result(result);
+}
+
+// The operation on a file, and what is printed of it. There is no query.
+fn read_it(file: &[u8], types: &mut [u16]) {
+    let back = emberstitch::read_answer(file, types);
+    let answer = back.answer;
+    let given = back.given;
+    let none = [0u16; 0];
+    match answer {
+        back::Answer::Accepted {
+            result,
+            types: count,
+        } => {
+            read_back(types, count, given, result);
+            tell(is_clean_behind(types, count, &none, 0));
+        }
+        back::Answer::Refused { number, place } => refused(types, &none, number, place),
+    }
+    tell(is_given_clean(given));
+}
+
+// ---- Vectors
+
+// The operation of a vector.
+fn outcome(operation: usize, job: &[u8], types: &mut [u16], query: &mut [u16], answer: &mut [u8]) {
+    match operation {
+        0 => type_it(job, types, query),
+        1 => answer_it(job, types, query, answer),
+        _ => read_it(job, types),
+    }
+}
+
+// The same with the front of each table and of the buffer. Of a vector with longer ones nothing is printed, so that its lines are missed.
+fn within(
+    operation: usize,
+    job: &[u8],
+    types: &mut [u16],
+    a: usize,
+    query: &mut [u16],
+    b: usize,
+    answer: &mut [u8],
+    c: usize,
+) {
     if a > types.len() {
         return;
     }
     if b > query.len() {
         return;
     }
-    outcome(job, &mut types[..a], &mut query[..b]);
+    if c > answer.len() {
+        return;
+    }
+    outcome(
+        operation,
+        job,
+        &mut types[..a],
+        &mut query[..b],
+        &mut answer[..c],
+    );
 }
 
 // What stands before the name of a vector.
 struct Head {
     name: usize,
+    operation: usize,
     types: usize,
     query: usize,
+    answer: usize,
     job: usize,
 }
 
-fn head_of(bytes: &[u8; 8]) -> Head {
+fn head_of(bytes: &[u8; 12]) -> Head {
     let name = words::wide(words::word(bytes, 0));
-    let types = words::wide(words::word(bytes, 2));
-    let query = words::wide(words::word(bytes, 4));
-    let job = words::wide(words::word(bytes, 6));
+    let operation = words::wide(words::word(bytes, 2));
+    let types = words::wide(words::word(bytes, 4));
+    let query = words::wide(words::word(bytes, 6));
+    let answer = words::wide(words::word(bytes, 8));
+    let job = words::wide(words::word(bytes, 10));
     Head {
         name,
+        operation,
         types,
         query,
+        answer,
         job,
     }
 }
@@ -148,21 +314,25 @@ fn run(head: Head) -> bool {
     }
     let mut types = old_types();
     let mut query = old_query();
+    let mut answer = old_answer();
     within(
+        head.operation,
         &bytes[..got],
         &mut types,
         head.types,
         &mut query,
         head.query,
+        &mut answer,
+        head.answer,
     );
     true
 }
 
 // Reads and runs the next vector; whether there was one.
 fn vector() -> bool {
-    let mut bytes = [0u8; 8];
+    let mut bytes = [0u8; 12];
     let got = io::read_full(STDIN_FILENO, &mut bytes);
-    if got < 8 {
+    if got < 12 {
         return false;
     }
     let head = head_of(&bytes);
