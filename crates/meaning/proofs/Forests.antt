@@ -119,6 +119,12 @@ trees-none end e = refl
 trees-none (leaf t r) e = absurd (omega arith)
 trees-none (tree l i r) e = absurd (omega arith)
 
+pub size-none : (f : Forest) → size f ≡ 0 → f ≡ end
+unfolding size
+size-none end e = refl
+size-none (leaf t r) e = absurd (omega arith)
+size-none (tree l i r) e = absurd (omega arith)
+
 -- WORDS: three for each entry, and no two forests have the same
 pub length-words : (f : Forest) → length (forestWords f) ≡ forestWidth * size f
 unfolding forestWords size
