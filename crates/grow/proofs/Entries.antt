@@ -1,11 +1,11 @@
--- The entry that `read` reads, kind by kind; that what stands in an entry stands in the table; and the entries that may be appended.
+-- A name that `read` reads; that what stands in an entry stands in the table; and the entries that may be appended.
 -- Assumes nothing.
 use mathlib.Core.Path.{_≡_, refl, ap, sym, _∙_}
-use mathlib.Core.Bool.{Bool, true, false}
+use mathlib.Core.Bool.{Bool, true}
 use mathlib.Core.List.{List}
 use Prim.Native.Nat.{ℕ, _<_, _≤_}
 use lib.ListN.{length, getD}
-use Rattle.meaning.specs.Base.{At, In, first, later, zeros}
+use Rattle.meaning.specs.Base.{At, In, first, zeros}
 use Rattle.meaning.specs.Types as Types
 use Rattle.meaning.specs.Types.{Entry, Table, Defs, kindOf, fieldsOf, entryOf, nameOf, at}
 use Rattle.meaning.specs.Reach.{stepsOf}
@@ -15,37 +15,12 @@ use Rattle.meaning.proofs.Lists.{at-low, at-getD}
 use Rattle.meaning.proofs.Guard.{steps-low, name-at}
 use Rattle.words.specs.declared.Entry as Words
 use Rattle.words.proofs.Tables.{entry-made}
-use Rattle.words.proofs.Entries.{Other, kind-string, kind-element, kind-pair, kind-union, kind-star, kind-plus, kind-opt, kind-name, kind-other}
+use Rattle.words.proofs.Entries.{kind-name}
 use Rattle.grow.specs.Grow.{Shows, New}
 
--- THE ENTRY THAT WAS READ, by its kind
-module _ {T : Table} {e : ℕ} {w : Words.Entry} (h : Shows T e w) where
-  pub shows-string : w .kind ≡ 2 → At T e Types.string
-  shows-string p = rw (kind-string (w .a) (w .b) p) at (h .is)
-
-  pub shows-element : w .kind ≡ 3 → At T e (Types.element (w .a) (w .b))
-  shows-element p = rw (kind-element (w .a) (w .b) p) at (h .is)
-
-  pub shows-pair : w .kind ≡ 4 → At T e (Types.pair (w .a) (w .b))
-  shows-pair p = rw (kind-pair (w .a) (w .b) p) at (h .is)
-
-  pub shows-union : w .kind ≡ 5 → At T e (Types.union (w .a) (w .b))
-  shows-union p = rw (kind-union (w .a) (w .b) p) at (h .is)
-
-  pub shows-star : w .kind ≡ 6 → At T e (Types.star (w .a))
-  shows-star p = rw (kind-star (w .a) (w .b) p) at (h .is)
-
-  pub shows-plus : w .kind ≡ 7 → At T e (Types.plus (w .a))
-  shows-plus p = rw (kind-plus (w .a) (w .b) p) at (h .is)
-
-  pub shows-opt : w .kind ≡ 8 → At T e (Types.opt (w .a))
-  shows-opt p = rw (kind-opt (w .a) (w .b) p) at (h .is)
-
-  pub shows-name : w .kind ≡ 9 → At T e (Types.name (w .a))
-  shows-name p = rw (kind-name (w .a) (w .b) p) at (h .is)
-
-  pub shows-empty : Other (w .kind) → At T e Types.empty
-  shows-empty o = rw (kind-other (w .a) (w .b) o) at (h .is)
+-- A NAME that was read
+pub shows-name : {T : Table} {e : ℕ} {w : Words.Entry} → Shows T e w → w .kind ≡ 9 → At T e (Types.name (w .a))
+shows-name {w = w} h p = rw (kind-name (w .a) (w .b) p) at (h .is)
 
 -- WHAT STANDS IN AN ENTRY
 module _ {D : Defs} {T : Table} (F : Formed D T) {e : ℕ} where
@@ -55,26 +30,6 @@ module _ {D : Defs} {T : Table} (F : Formed D T) {e : ℕ} where
   pub element-low : {l c : ℕ} → At T e (Types.element l c) → c < length T
   unfolding stepsOf
   element-low {c = c} h = part-low true c h first
-
-  pub pair-low : {a b : ℕ} → At T e (Types.pair a b) → (a < length T) × (b < length T)
-  unfolding stepsOf
-  pair-low {a} {b} h = (part-low false a h first, part-low false b h (later first))
-
-  pub union-low : {a b : ℕ} → At T e (Types.union a b) → (a < length T) × (b < length T)
-  unfolding stepsOf
-  union-low {a} {b} h = (part-low false a h first, part-low false b h (later first))
-
-  pub star-low : {a : ℕ} → At T e (Types.star a) → a < length T
-  unfolding stepsOf
-  star-low {a} h = part-low false a h first
-
-  pub plus-low : {a : ℕ} → At T e (Types.plus a) → a < length T
-  unfolding stepsOf
-  plus-low {a} h = part-low false a h first
-
-  pub opt-low : {a : ℕ} → At T e (Types.opt a) → a < length T
-  unfolding stepsOf
-  opt-low {a} h = part-low false a h first
 
   -- a name's definition is there, and stands in the table
   pub name-low : {d : ℕ} → At T e (Types.name d) → (d < length D) × At D d (getD D d 0) × (getD D d 0 < length T)

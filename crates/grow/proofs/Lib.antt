@@ -3,4 +3,3 @@ pub mod Entries
 pub mod Tables
 pub mod Growth
 pub mod Steps
-pub mod Walks

@@ -8,14 +8,10 @@ use native.Mathlib.Decide.{ℕ-discrete, decLt}
 use lib.ListN.{length, take, length-append}
 use lib.Seq.{take-length, take-append-le}
 use Rattle.meaning.specs.Base.{Out, ok, refused, typeCapacity}
-use Rattle.meaning.specs.Types as Types
 use Rattle.meaning.specs.Types.{Entry, Table, Defs, at}
-use Rattle.meaning.specs.Formed.{Formed}
-use Rattle.meaning.specs.Shapes.{shape}
 use Rattle.meaning.specs.Rules.{Rule, after, append}
-use Rattle.meaning.proofs.Lists.{Grows, grows-length, at-getD, at-is, at-grows}
+use Rattle.meaning.proofs.Lists.{Grows, grows-length}
 use Rattle.meaning.proofs.Ends.{Ends, ends-ok}
-use Rattle.meaning.proofs.Shapes.{shape-grows}
 use Rattle.meaning.proofs.Grow.{Grew}
 use Rattle.words.specs.Tables.{tableOf}
 use Rattle.words.proofs.Tables.{table-length}
@@ -90,12 +86,6 @@ module _ (ws us : List ℕ) (n m : ℕ) (G : Grows (tableOf ws n) (tableOf us m)
       ∙ ap (take k) (G .is)
       ∙ take-append-le k (tableOf ws n) (G .tail) (omega (arith, table-length ws n))
       ∙ table-first ws k n h
-
-  pub kept-at : (e : ℕ) → e < n → at (tableOf us m) e ≡ at (tableOf ws n) e
-  kept-at e l = at-getD (at-grows G (at-is (tableOf ws n) e Types.empty (rw table-length l))) Types.empty
-
-  pub kept-shape : {D : Defs} → Formed D (tableOf ws n) → (e : ℕ) → e < n → shape D (tableOf us m) e ≡ shape D (tableOf ws n) e
-  kept-shape F e l = shape-grows F G (rw table-length l)
 
 -- what an append that made an entry says
 pub record Appended (ws us : List ℕ) (n l m : ℕ) (x : Entry) : Type 0 where

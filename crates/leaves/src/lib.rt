@@ -58,7 +58,7 @@ pub fn variable(count: usize, scope: Scope, n: usize, v: u16) -> Walked
     Walked { made, scope }
 }
 
-// child of a tree variable, for node n.
+// child of a tree variable, for node n. The marks are scratch.
 pub fn child(
     test: u16,
     types: &mut [u16],
@@ -69,8 +69,9 @@ pub fn child(
     n: usize,
     v: u16,
     scope: Scope,
+    marks: &mut [u16],
 ) -> Walked
-    requires { ⌜ Begins (take used (now defs)) (now types) (now classes) count scope × (v ≤ 63) ⌝ }
+    requires { ⌜ Begins (take used (now defs)) (now types) (now classes) count scope ⌝ ∗ ⌜ v ≤ 63 ⌝ ∗ ⌜ 4096 ≤ length (now marks) ⌝ }
     ensures { λ r. ⌜ Walks (take used (now (defs .entry))) (now (types .entry)) (now (types .exit)) (now (classes .entry)) (now (classes .exit)) count (Queries.child n v test) scope r ⌝ }
 {
     let looked = conds::tree_type(scope, n, v);
@@ -83,7 +84,7 @@ pub fn child(
         }
         Found::Entry(e) => {
             let at = words::wide(e);
-            let made = filters::child_rule(test, types, classes, defs, used, count, n, at);
+            let made = walks::child_rule(test, types, classes, defs, used, count, n, at, marks);
             return Walked { made, scope };
         }
     }

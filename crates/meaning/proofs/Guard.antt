@@ -38,7 +38,7 @@ plus-if : Bool → ℕ → ℕ
 plus-if true n = suc n
 plus-if false n = n
 
-countBelow : (ℕ → Bool) → ℕ → ℕ
+pub countBelow : (ℕ → Bool) → ℕ → ℕ
 countBelow f zero = 0
 countBelow f (suc n) = plus-if (f n) (countBelow f n)
 
@@ -56,7 +56,7 @@ plus-if-lt true false m n h l = never (h refl)
 plus-if-lt false true m n h l = omega arith
 plus-if-lt false false m n h l = l
 
-count-most : (f : ℕ → Bool) (n : ℕ) → countBelow f n ≤ n
+pub count-most : (f : ℕ → Bool) (n : ℕ) → countBelow f n ≤ n
 unfolding countBelow plus-if
 count-most f zero = omega arith
 count-most f (suc n) = go (f n) (count-most f n)
@@ -72,7 +72,7 @@ module _ (f g : ℕ → Bool) (more : (d : ℕ) → f d ≡ true → g d ≡ tru
   count-le (suc n) = plus-if-le (f n) (g n) (countBelow f n) (countBelow g n) (more n) (count-le n)
 
   -- and one that only the second counts
-  count-lt : (n d : ℕ) → d < n → f d ≡ false → g d ≡ true → countBelow f n < countBelow g n
+  pub count-lt : (n d : ℕ) → d < n → f d ≡ false → g d ≡ true → countBelow f n < countBelow g n
   unfolding countBelow plus-if
   count-lt zero d l p q = absurd (omega arith)
   count-lt (suc n) d l p q = go (ℕ-discrete d n) (λ k. count-lt n d k p q)

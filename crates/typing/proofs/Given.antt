@@ -28,10 +28,9 @@ use Rattle.grow.specs.Grow.{Ready, Left, After}
 use Rattle.grow.specs.declared.Made.{Made}
 use Rattle.grow.specs.declared.Made.the-variants as Made
 use Rattle.grow.proofs.Steps.{left-ready}
-use Rattle.grow.proofs.Walks.{walk-count}
-use Rattle.walks.proofs.Primes.{prime-grows}
+use Rattle.walks.proofs.Grown.{prime-count}
 use Rattle.leaves.specs.declared.Walked.{Walked}
-use Rattle.leaves.specs.Walk.{Within, Begins, Walks}
+use Rattle.leaves.specs.Walk.{Within, Walks}
 use Rattle.joins.specs.Joins.{Few}
 use Rattle.joins.proofs.Growing as Growing
 use Rattle.joins.proofs.Growing.{within-more, within-bind}
@@ -118,4 +117,4 @@ module _ {ws cs ms defs code : List ℕ} {used nodes count n : ℕ} {s : Scope} 
   -- AFTER PRIME
   module _ {us ds : List ℕ} {e : ℕ} (node : ℕ) {o : Made} (l : e < count) (w : Left D ws us cs ds o (prime (typeCapacity (length ws)) node (shape D (tableOf ws count) e) (tableOf ws count))) where
     pub after-prime : (q : ℕ) {ns : List ℕ} {x m : ℕ} {t : Scope} → o ≡ Made.Entry x m → length ns ≡ length ms → t ≡ s → q < nodes → Here us ds ns defs used code nodes m q t
-    after-prime q p k j i = grown q (left-ready p w .0) (walk-count D node (λ room. prime room node) (prime-grows D node) (h .begins .ready) l w p) k j i
+    after-prime q p k j i = grown q (left-ready p w .0) (prime-count node (h .begins .ready) l w p) k j i

@@ -1,6 +1,6 @@
 // The typing walk: from a node of the query table down, left field first, with 13 to 16 where they are met. The first `used` of `defs` are the
-// definitions; the marks are scratch for dos. A scope comes by value and is handed back as it was. `walk` takes a node apart and the others do one
-// kind of query each; parts have lower nodes, so calls nest no deeper than there are nodes.
+// definitions; the marks are scratch for prime, child and dos. A scope comes by value and is handed back as it was. `walk` takes a node apart and the
+// others do one kind of query each; parts have lower nodes, so calls nest no deeper than there are nodes.
 ghost use mathlib.Core.Path.{_≡_};
 ghost use mathlib.Core.Option.{some};
 ghost use Prim.Native.Nat.{_≤_, _<_};
@@ -257,7 +257,7 @@ fn each(
     ensures { λ r. ⌜ Leaves (take used (now (defs .entry))) (now (types .entry)) (now (types .exit)) (now (classes .entry)) (now (classes .exit)) count scope r (Rattle.typing.specs.Walking.each (take used (now (defs .entry))) n v (queryAt (codeOf (now (code .entry)) nodes) q) e) ⌝ }
 {
     let class = classes[e];
-    let made = walks::prime(types, classes, defs, used, count, n, e);
+    let made = walks::prime(types, classes, defs, used, count, n, e, marks);
     let Made::Entry { at, count: m } = made else {
         return Walked { made, scope };
     };
@@ -387,7 +387,7 @@ pub fn walk(
         }
         Query::Variable(v) => leaves::variable(count, scope, n, v),
         Query::Child(v, test) => {
-            leaves::child(test, types, classes, defs, used, count, n, v, scope)
+            leaves::child(test, types, classes, defs, used, count, n, v, scope, marks)
         }
         Query::Dos(v, test) => {
             leaves::dos(test, types, classes, defs, used, count, n, v, scope, marks)

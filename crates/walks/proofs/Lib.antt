@@ -1,6 +1,9 @@
--- Laws of the rules that walk a type, by what stands in an entry. Read in this order.
-pub mod Parts
-pub mod Parted
-pub mod Primes
-pub mod Contents
+-- Laws of the rules that walk a type. Read in this order.
+pub mod Tall
+pub mod Stack
+pub mod Acting
+pub mod Turns
+pub mod Going
+pub mod Grown
+pub mod Filters
 pub mod Repeats

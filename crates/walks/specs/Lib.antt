@@ -1,2 +1,2 @@
--- What the steps of a walk over a type say.
-pub mod Walks
+-- The stack of a walk over a type, and its steps.
+pub mod Frames

@@ -13,9 +13,9 @@ enum-known-found c = search needs
 
 returns : tie.Need-returns
 returns c =
-    let looked = c .before .before .before .before .tree-type in
-    let args = c .before .before .before .before .before .before .before .before .args in
-    child-stops (args .count) (args .n) (args .v) (args .test) (looked .result .found) (looked .ensures) (c .before .found .given .1)
+    let tree-type = c .before .before .before .before .tree-type in
+    let start = c .before .before .before .before .before .before .before .before .before in
+    child-stops (start .args .count) (start .args .n) (start .args .v) (start .args .test) (tree-type .result .found) (tree-type .ensures) (c .before .found .given .1)
 
 enum-known-found-2 : tie.Need-enum-known-found-2
 enum-known-found-2 c = search needs
@@ -25,12 +25,13 @@ wide-requires c κs = search needs
 
 child-rule-requires : tie.Need-child-rule-requires
 child-rule-requires c κs =
-    let at-found = c .before .before .before .before in
-    let looked = at-found .before .before .before .tree-type in
-    let start = c .before .before .before .before .before .before .before .before .before .before .before in
-    let begins = start .pre .0 in
-    let low = tree-low (start .args .n) (start .args .v) begins (start .pre .1) (looked .result .found) (at-found .found2 .given .1) (looked .ensures) in
-    (begins .ready, omega (arith, c .before .before .wide .ensures, low))
+    let wide = c .before .before .before .wide in
+    let found2 = c .before .before .before .before .before .found2 in
+    let tree-type = c .before .before .before .before .before .before .before .before .tree-type in
+    let start = c .before .before .before .before .before .before .before .before .before .before .before .before .before in
+    let begins = (start .pre .0) in
+    let low = tree-low (start .args .n) (start .args .v) begins (start .pre .1 .0) (tree-type .result .found) (found2 .given .1) (tree-type .ensures) in
+    ((begins .ready, omega (arith, (wide .ensures), low)), (start .pre .1 .1))
 
 same-length : tie.Need-same-length
 same-length c = search needs
@@ -38,14 +39,17 @@ same-length c = search needs
 same-length-2 : tie.Need-same-length-2
 same-length-2 c = search needs
 
+same-length-3 : tie.Need-same-length-3
+same-length-3 c = search needs
+
 returns-2 : tie.Need-returns-2
 returns-2 c =
-    let at-call = c .before .before .before .before in
-    let at-wide = at-call .before .before .before in
-    let at-found = at-wide .before .before in
-    let looked = at-found .before .before .before .tree-type in
-    let args = c .before .before .before .before .before .before .before .before .before .before .before .before .before .before .before .before .args in
-    child-walks (args .count) (args .n) (args .v) (args .test) (looked .result .found) (looked .ensures) (at-found .found2 .given .1) (at-wide .wide .ensures) (at-call .child-rule .ensures)
+    let child-rule = c .before .before .before .before .before .before .child-rule in
+    let wide = c .before .before .before .before .before .before .before .before .before .before .wide in
+    let found2 = c .before .before .before .before .before .before .before .before .before .before .before .before .found2 in
+    let tree-type = c .before .before .before .before .before .before .before .before .before .before .before .before .before .before .before .tree-type in
+    let start = c .before .before .before .before .before .before .before .before .before .before .before .before .before .before .before .before .before .before .before .before in
+    child-walks (start .args .count) (start .args .n) (start .args .v) (start .args .test) (tree-type .result .found) (tree-type .ensures) (found2 .given .1) (wide .ensures) (child-rule .ensures)
 
 pub child-spec : {M : Type 1} → statement M
 child-spec =
@@ -59,4 +63,5 @@ child-spec =
     child-rule-requires
     same-length
     same-length-2
+    same-length-3
     returns-2)

@@ -1,5 +1,5 @@
 -- The answers of `typing::each`. Assumes nothing.
-use mathlib.Core.Path.{refl}
+use mathlib.Core.Path.{refl, _∙_}
 use Rattle.meaning.specs.Records as Records
 use Rattle.words.proofs.Tables.{table-length}
 use Rattle.grow.proofs.Steps.{left-ready}
@@ -20,29 +20,29 @@ module _ (t : Prim.Native.Nat.ℕ) where
   abbrev start-of-After-slice-known4 : each-lts.After-slice-known4 (each-calls t) (each-at t) each.Post → each-lts.Start (each-calls t) (each-at t) each.Post
   start-of-After-slice-known4 c = c .before .before .before .before .before .before
 
-  abbrev start-of-After-prime-arg2 : each-lts.After-prime-arg2 (each-calls t) (each-at t) each.Post → each-lts.Start (each-calls t) (each-at t) each.Post
-  start-of-After-prime-arg2 c = c .before .before .before .before .before .before .before .before
+  abbrev start-of-After-prime-arg3 : each-lts.After-prime-arg3 (each-calls t) (each-at t) each.Post → each-lts.Start (each-calls t) (each-at t) each.Post
+  start-of-After-prime-arg3 c = c .before .before .before .before .before .before .before .before .before
 
   abbrev prime-of-After-enum-told : each-lts.After-enum-told (each-calls t) (each-at t) each.Post → each-lts.After-prime (each-calls t) (each-at t) each.Post
-  prime-of-After-enum-told c = c .before .before .before .before .before .before
+  prime-of-After-enum-told c = c .before .before .before .before .before .before .before .before
 
   abbrev prime-of-After-known-told : each-lts.After-known-told (each-calls t) (each-at t) each.Post → each-lts.After-prime (each-calls t) (each-at t) each.Post
-  prime-of-After-known-told c = c .before .before .before .before .before .before .before
+  prime-of-After-known-told c = c .before .before .before .before .before .before .before .before .before
 
   abbrev start-of-After-inside-arg3 : each-lts.After-inside-arg3 (each-calls t) (each-at t) each.Post → each-lts.Start (each-calls t) (each-at t) each.Post
-  start-of-After-inside-arg3 c = c .before .before .before .before .before .before .before .before .before .before .before .before .before .before .before .before .before .before .before
+  start-of-After-inside-arg3 c = c .before .before .before .before .before .before .before .before .before .before .before .before .before .before .before .before .before .before .before .before .before .before
 
   abbrev prime-of-After-inside-arg3 : each-lts.After-inside-arg3 (each-calls t) (each-at t) each.Post → each-lts.After-prime (each-calls t) (each-at t) each.Post
-  prime-of-After-inside-arg3 c = c .before .before .before .before .before .before .before .before .before .before
+  prime-of-After-inside-arg3 c = c .before .before .before .before .before .before .before .before .before .before .before .before
 
   abbrev made-of-After-inside-arg3 : each-lts.After-inside-arg3 (each-calls t) (each-at t) each.Post → each-lts.After-made (each-calls t) (each-at t) each.Post
   made-of-After-inside-arg3 c = c .before .before .before .before
 
   abbrev start-of-After-repeat-arg2 : each-lts.After-repeat-arg2 (each-calls t) (each-at t) each.Post → each-lts.Start (each-calls t) (each-at t) each.Post
-  start-of-After-repeat-arg2 c = c .before .before .before .before .before .before .before .before .before .before .before .before .before .before .before .before .before .before .before .before .before .before .before .before .before .before .before .before
+  start-of-After-repeat-arg2 c = c .before .before .before .before .before .before .before .before .before .before .before .before .before .before .before .before .before .before .before .before .before .before .before .before .before .before .before .before .before .before .before
 
   abbrev prime-of-After-repeat-arg2 : each-lts.After-repeat-arg2 (each-calls t) (each-at t) each.Post → each-lts.After-prime (each-calls t) (each-at t) each.Post
-  prime-of-After-repeat-arg2 c = c .before .before .before .before .before .before .before .before .before .before .before .before .before .before .before .before .before .before .before
+  prime-of-After-repeat-arg2 c = c .before .before .before .before .before .before .before .before .before .before .before .before .before .before .before .before .before .before .before .before .before
 
   abbrev inside-of-After-repeat-arg2 : each-lts.After-repeat-arg2 (each-calls t) (each-at t) each.Post → each-lts.After-inside (each-calls t) (each-at t) each.Post
   inside-of-After-repeat-arg2 c = c .before .before .before .before .before .before .before .before
@@ -50,20 +50,20 @@ module _ (t : Prim.Native.Nat.ℕ) where
   abbrev made-of-After-repeat-arg2 : each-lts.After-repeat-arg2 (each-calls t) (each-at t) each.Post → each-lts.After-made (each-calls t) (each-at t) each.Post
   made-of-After-repeat-arg2 c = c .before .before .before .before .before .before .before .before .before .before .before .before .before
 
-  abbrev start-of-After-slice-known11 : each-lts.After-slice-known11 (each-calls t) (each-at t) each.Post → each-lts.Start (each-calls t) (each-at t) each.Post
-  start-of-After-slice-known11 c = c .before .before .before .before .before .before .before .before .before .before .before .before .before .before .before .before .before .before .before .before .before .before .before .before .before .before .before .before .before .before .before .before .before
+  abbrev repeat-of-After-slice-known12 : each-lts.After-slice-known12 (each-calls t) (each-at t) each.Post → each-lts.After-repeat (each-calls t) (each-at t) each.Post
+  repeat-of-After-slice-known12 c = c .before .before .before .before
 
-  abbrev prime-of-After-slice-known11 : each-lts.After-slice-known11 (each-calls t) (each-at t) each.Post → each-lts.After-prime (each-calls t) (each-at t) each.Post
-  prime-of-After-slice-known11 c = c .before .before .before .before .before .before .before .before .before .before .before .before .before .before .before .before .before .before .before .before .before .before .before .before
+  abbrev inside-of-After-slice-known12 : each-lts.After-slice-known12 (each-calls t) (each-at t) each.Post → each-lts.After-inside (each-calls t) (each-at t) each.Post
+  inside-of-After-slice-known12 c = c .before .before .before .before .before .before .before .before .before .before .before .before .before
 
-  abbrev made-of-After-slice-known11 : each-lts.After-slice-known11 (each-calls t) (each-at t) each.Post → each-lts.After-made (each-calls t) (each-at t) each.Post
-  made-of-After-slice-known11 c = c .before .before .before .before .before .before .before .before .before .before .before .before .before .before .before .before .before .before
+  abbrev prime-of-After-slice-known12 : each-lts.After-slice-known12 (each-calls t) (each-at t) each.Post → each-lts.After-prime (each-calls t) (each-at t) each.Post
+  prime-of-After-slice-known12 c = c .before .before .before .before .before .before .before .before .before .before .before .before .before .before .before .before .before .before .before .before .before .before .before .before .before .before
 
-  abbrev inside-of-After-slice-known11 : each-lts.After-slice-known11 (each-calls t) (each-at t) each.Post → each-lts.After-inside (each-calls t) (each-at t) each.Post
-  inside-of-After-slice-known11 c = c .before .before .before .before .before .before .before .before .before .before .before .before .before
+  abbrev start-of-After-slice-known12 : each-lts.After-slice-known12 (each-calls t) (each-at t) each.Post → each-lts.Start (each-calls t) (each-at t) each.Post
+  start-of-After-slice-known12 c = c .before .before .before .before .before .before .before .before .before .before .before .before .before .before .before .before .before .before .before .before .before .before .before .before .before .before .before .before .before .before .before .before .before .before .before .before
 
-  abbrev repeat-of-After-slice-known11 : each-lts.After-slice-known11 (each-calls t) (each-at t) each.Post → each-lts.After-repeat (each-calls t) (each-at t) each.Post
-  repeat-of-After-slice-known11 c = c .before .before .before .before
+  abbrev made-of-After-slice-known12 : each-lts.After-slice-known12 (each-calls t) (each-at t) each.Post → each-lts.After-made (each-calls t) (each-at t) each.Post
+  made-of-After-slice-known12 c = c .before .before .before .before .before .before .before .before .before .before .before .before .before .before .before .before .before .before
 
   pub mul-class : each-lts.Need-mul-class (each-calls t) (each-at t) each.Post
   mul-class c =
@@ -85,8 +85,8 @@ module _ (t : Prim.Native.Nat.ℕ) where
 
   pub prime-requires : each-lts.Need-prime-requires (each-calls t) (each-at t) each.Post
   prime-requires c κs =
-      let s = (start-of-After-prime-arg2 c) in
-      (s .pre .1 .0 .begins .ready, s .pre .1 .1 .1)
+      let s = (start-of-After-prime-arg3 c) in
+      ((s .pre .1 .0 .begins .ready, s .pre .1 .1 .1), s .pre .1 .0 .marked)
 
   pub enum-known-made : each-lts.Need-enum-known-made (each-calls t) (each-at t) each.Post
   enum-known-made c = search needs
@@ -99,6 +99,9 @@ module _ (t : Prim.Native.Nat.ℕ) where
 
   pub same-length-2 : each-lts.Need-same-length-2 (each-calls t) (each-at t) each.Post
   same-length-2 c = search needs
+
+  pub same-length-3 : each-lts.Need-same-length-3 (each-calls t) (each-at t) each.Post
+  same-length-3 c = search needs
 
   pub returns : each-lts.Need-returns (each-calls t) (each-at t) each.Post
   returns c =
@@ -115,7 +118,7 @@ module _ (t : Prim.Native.Nat.ℕ) where
       let h = s .pre .1 .0 in
       let w = (prime-of-After-inside-arg3 c) .prime .ensures in
       let made = (made-of-After-inside-arg3 c) .made .given .1 in
-      (omega (arith, s .pre .0), (after-prime h _ (s .pre .1 .1 .1) w (s .args .q) made refl refl (h .low), (s .pre .1 .1 .0, left-ready made w .1)))
+      (omega (arith, s .pre .0), (after-prime h _ (s .pre .1 .1 .1) w (s .args .q) made ((prime-of-After-inside-arg3 c) .prime .kept .1 .1 .1 .1 .1 .1 .1 .0) refl (h .low), (s .pre .1 .1 .0, left-ready made w .1)))
 
   pub repeat-requires : each-lts.Need-repeat-requires (each-calls t) (each-at t) each.Post
   repeat-requires c κs =
@@ -124,17 +127,18 @@ module _ (t : Prim.Native.Nat.ℕ) where
       let b = (inside-of-After-repeat-arg2 c) .inside .ensures (Records.tree _) refl in
       (leaves-long b (left-ready ((made-of-After-repeat-arg2 c) .made .given .1) w .0 .long), leaves-few b)
 
-  pub same-length-3 : each-lts.Need-same-length-3 (each-calls t) (each-at t) each.Post
-  same-length-3 c = search needs
-
   pub same-length-4 : each-lts.Need-same-length-4 (each-calls t) (each-at t) each.Post
-  same-length-4 c = search needs
+  same-length-4 c =
+      (repeat-of-After-slice-known12 c) .repeat .kept .0 ∙ (inside-of-After-slice-known12 c) .inside .kept .0 ∙ (prime-of-After-slice-known12 c) .prime .kept .0
 
   pub same-length-5 : each-lts.Need-same-length-5 (each-calls t) (each-at t) each.Post
   same-length-5 c = search needs
 
+  pub same-length-6 : each-lts.Need-same-length-6 (each-calls t) (each-at t) each.Post
+  same-length-6 c = search needs
+
   pub returns-2 : each-lts.Need-returns-2 (each-calls t) (each-at t) each.Post
   returns-2 c =
-      let s = (start-of-After-slice-known11 c) in
+      let s = (start-of-After-slice-known12 c) in
       let h = s .pre .1 .0 in
-      each-leaves _ _ _ _ ((prime-of-After-slice-known11 c) .prime .ensures) ((made-of-After-slice-known11 c) .made .given .1) ((inside-of-After-slice-known11 c) .inside .ensures (Records.tree _) refl) ((repeat-of-After-slice-known11 c) .repeat .ensures) (h .begins .ready .filled .right _ (rw table-length (s .pre .1 .1 .1)))
+      each-leaves _ _ _ _ ((prime-of-After-slice-known12 c) .prime .ensures) ((made-of-After-slice-known12 c) .made .given .1) ((inside-of-After-slice-known12 c) .inside .ensures (Records.tree _) refl) ((repeat-of-After-slice-known12 c) .repeat .ensures) (h .begins .ready .filled .right _ (rw table-length (s .pre .1 .1 .1)))

@@ -37,14 +37,14 @@ module _ (t : Prim.Native.Nat.ℕ) where
   abbrev read-query-of-After-known-told3 : walk-lts.After-known-told3 (walk-calls t) (walk-at t) walk.Post → walk-lts.After-read-query (walk-calls t) (walk-at t) walk.Post
   read-query-of-After-known-told3 c = c .before .before .before
 
-  abbrev start-of-After-child-arg2 : walk-lts.After-child-arg2 (walk-calls t) (walk-at t) walk.Post → walk-lts.Start (walk-calls t) (walk-at t) walk.Post
-  start-of-After-child-arg2 c = c .before .before .before .before .before .before .before .before .before .before .before
+  abbrev start-of-After-child-arg3 : walk-lts.After-child-arg3 (walk-calls t) (walk-at t) walk.Post → walk-lts.Start (walk-calls t) (walk-at t) walk.Post
+  start-of-After-child-arg3 c = c .before .before .before .before .before .before .before .before .before .before .before .before
 
-  abbrev read-query-of-After-child-arg2 : walk-lts.After-child-arg2 (walk-calls t) (walk-at t) walk.Post → walk-lts.After-read-query (walk-calls t) (walk-at t) walk.Post
-  read-query-of-After-child-arg2 c = c .before .before .before .before .before
+  abbrev read-query-of-After-child-arg3 : walk-lts.After-child-arg3 (walk-calls t) (walk-at t) walk.Post → walk-lts.After-read-query (walk-calls t) (walk-at t) walk.Post
+  read-query-of-After-child-arg3 c = c .before .before .before .before .before .before
 
-  abbrev query4-of-After-child-arg2 : walk-lts.After-child-arg2 (walk-calls t) (walk-at t) walk.Post → walk-lts.After-query4 (walk-calls t) (walk-at t) walk.Post
-  query4-of-After-child-arg2 c = c .before .before .before
+  abbrev query4-of-After-child-arg3 : walk-lts.After-child-arg3 (walk-calls t) (walk-at t) walk.Post → walk-lts.After-query4 (walk-calls t) (walk-at t) walk.Post
+  query4-of-After-child-arg3 c = c .before .before .before .before
 
   abbrev start-of-After-dos-arg3 : walk-lts.After-dos-arg3 (walk-calls t) (walk-at t) walk.Post → walk-lts.Start (walk-calls t) (walk-at t) walk.Post
   start-of-After-dos-arg3 c = c .before .before .before .before .before .before .before .before .before .before .before .before
@@ -124,65 +124,65 @@ module _ (t : Prim.Native.Nat.ℕ) where
   abbrev read-query-of-After-variable : walk-lts.After-variable (walk-calls t) (walk-at t) walk.Post → walk-lts.After-read-query (walk-calls t) (walk-at t) walk.Post
   read-query-of-After-variable c = c .before .before .before .before
 
-  abbrev start-of-After-slice-known11 : walk-lts.After-slice-known11 (walk-calls t) (walk-at t) walk.Post → walk-lts.Start (walk-calls t) (walk-at t) walk.Post
-  start-of-After-slice-known11 c = c .before .before .before .before .before .before .before .before .before .before .before .before .before .before .before .before
+  abbrev start-of-After-slice-known12 : walk-lts.After-slice-known12 (walk-calls t) (walk-at t) walk.Post → walk-lts.Start (walk-calls t) (walk-at t) walk.Post
+  start-of-After-slice-known12 c = c .before .before .before .before .before .before .before .before .before .before .before .before .before .before .before .before .before .before .before
 
-  abbrev read-query-of-After-slice-known11 : walk-lts.After-slice-known11 (walk-calls t) (walk-at t) walk.Post → walk-lts.After-read-query (walk-calls t) (walk-at t) walk.Post
-  read-query-of-After-slice-known11 c = c .before .before .before .before .before .before .before .before .before .before
+  abbrev read-query-of-After-slice-known12 : walk-lts.After-slice-known12 (walk-calls t) (walk-at t) walk.Post → walk-lts.After-read-query (walk-calls t) (walk-at t) walk.Post
+  read-query-of-After-slice-known12 c = c .before .before .before .before .before .before .before .before .before .before .before .before .before
 
-  abbrev query4-of-After-slice-known11 : walk-lts.After-slice-known11 (walk-calls t) (walk-at t) walk.Post → walk-lts.After-query4 (walk-calls t) (walk-at t) walk.Post
-  query4-of-After-slice-known11 c = c .before .before .before .before .before .before .before .before
+  abbrev query4-of-After-slice-known12 : walk-lts.After-slice-known12 (walk-calls t) (walk-at t) walk.Post → walk-lts.After-query4 (walk-calls t) (walk-at t) walk.Post
+  query4-of-After-slice-known12 c = c .before .before .before .before .before .before .before .before .before .before .before
 
-  abbrev child-of-After-slice-known11 : walk-lts.After-slice-known11 (walk-calls t) (walk-at t) walk.Post → walk-lts.After-child (walk-calls t) (walk-at t) walk.Post
-  child-of-After-slice-known11 c = c .before .before .before .before
+  abbrev child-of-After-slice-known12 : walk-lts.After-slice-known12 (walk-calls t) (walk-at t) walk.Post → walk-lts.After-child (walk-calls t) (walk-at t) walk.Post
+  child-of-After-slice-known12 c = c .before .before .before .before .before .before
 
-  abbrev start-of-After-slice-known14 : walk-lts.After-slice-known14 (walk-calls t) (walk-at t) walk.Post → walk-lts.Start (walk-calls t) (walk-at t) walk.Post
-  start-of-After-slice-known14 c = c .before .before .before .before .before .before .before .before .before .before .before .before .before .before .before .before .before .before .before
+  abbrev start-of-After-slice-known15 : walk-lts.After-slice-known15 (walk-calls t) (walk-at t) walk.Post → walk-lts.Start (walk-calls t) (walk-at t) walk.Post
+  start-of-After-slice-known15 c = c .before .before .before .before .before .before .before .before .before .before .before .before .before .before .before .before .before .before .before
 
-  abbrev read-query-of-After-slice-known14 : walk-lts.After-slice-known14 (walk-calls t) (walk-at t) walk.Post → walk-lts.After-read-query (walk-calls t) (walk-at t) walk.Post
-  read-query-of-After-slice-known14 c = c .before .before .before .before .before .before .before .before .before .before .before .before .before
+  abbrev read-query-of-After-slice-known15 : walk-lts.After-slice-known15 (walk-calls t) (walk-at t) walk.Post → walk-lts.After-read-query (walk-calls t) (walk-at t) walk.Post
+  read-query-of-After-slice-known15 c = c .before .before .before .before .before .before .before .before .before .before .before .before .before
 
-  abbrev query5-of-After-slice-known14 : walk-lts.After-slice-known14 (walk-calls t) (walk-at t) walk.Post → walk-lts.After-query5 (walk-calls t) (walk-at t) walk.Post
-  query5-of-After-slice-known14 c = c .before .before .before .before .before .before .before .before .before .before .before
+  abbrev query5-of-After-slice-known15 : walk-lts.After-slice-known15 (walk-calls t) (walk-at t) walk.Post → walk-lts.After-query5 (walk-calls t) (walk-at t) walk.Post
+  query5-of-After-slice-known15 c = c .before .before .before .before .before .before .before .before .before .before .before
 
-  abbrev dos-of-After-slice-known14 : walk-lts.After-slice-known14 (walk-calls t) (walk-at t) walk.Post → walk-lts.After-dos (walk-calls t) (walk-at t) walk.Post
-  dos-of-After-slice-known14 c = c .before .before .before .before .before .before
+  abbrev dos-of-After-slice-known15 : walk-lts.After-slice-known15 (walk-calls t) (walk-at t) walk.Post → walk-lts.After-dos (walk-calls t) (walk-at t) walk.Post
+  dos-of-After-slice-known15 c = c .before .before .before .before .before .before
 
-  abbrev start-of-After-slice-known17 : walk-lts.After-slice-known17 (walk-calls t) (walk-at t) walk.Post → walk-lts.Start (walk-calls t) (walk-at t) walk.Post
-  start-of-After-slice-known17 c = c .before .before .before .before .before .before .before .before .before .before .before .before .before .before .before .before .before .before .before
+  abbrev start-of-After-slice-known18 : walk-lts.After-slice-known18 (walk-calls t) (walk-at t) walk.Post → walk-lts.Start (walk-calls t) (walk-at t) walk.Post
+  start-of-After-slice-known18 c = c .before .before .before .before .before .before .before .before .before .before .before .before .before .before .before .before .before .before .before
 
-  abbrev read-query-of-After-slice-known17 : walk-lts.After-slice-known17 (walk-calls t) (walk-at t) walk.Post → walk-lts.After-read-query (walk-calls t) (walk-at t) walk.Post
-  read-query-of-After-slice-known17 c = c .before .before .before .before .before .before .before .before .before .before .before .before .before
+  abbrev read-query-of-After-slice-known18 : walk-lts.After-slice-known18 (walk-calls t) (walk-at t) walk.Post → walk-lts.After-read-query (walk-calls t) (walk-at t) walk.Post
+  read-query-of-After-slice-known18 c = c .before .before .before .before .before .before .before .before .before .before .before .before .before
 
-  abbrev query6-of-After-slice-known17 : walk-lts.After-slice-known17 (walk-calls t) (walk-at t) walk.Post → walk-lts.After-query6 (walk-calls t) (walk-at t) walk.Post
-  query6-of-After-slice-known17 c = c .before .before .before .before .before .before .before .before .before .before .before
+  abbrev query6-of-After-slice-known18 : walk-lts.After-slice-known18 (walk-calls t) (walk-at t) walk.Post → walk-lts.After-query6 (walk-calls t) (walk-at t) walk.Post
+  query6-of-After-slice-known18 c = c .before .before .before .before .before .before .before .before .before .before .before
 
-  abbrev for-in-of-After-slice-known17 : walk-lts.After-slice-known17 (walk-calls t) (walk-at t) walk.Post → walk-lts.After-for-in (walk-calls t) (walk-at t) walk.Post
-  for-in-of-After-slice-known17 c = c .before .before .before .before .before .before
+  abbrev for-in-of-After-slice-known18 : walk-lts.After-slice-known18 (walk-calls t) (walk-at t) walk.Post → walk-lts.After-for-in (walk-calls t) (walk-at t) walk.Post
+  for-in-of-After-slice-known18 c = c .before .before .before .before .before .before
 
-  abbrev start-of-After-slice-known20 : walk-lts.After-slice-known20 (walk-calls t) (walk-at t) walk.Post → walk-lts.Start (walk-calls t) (walk-at t) walk.Post
-  start-of-After-slice-known20 c = c .before .before .before .before .before .before .before .before .before .before .before .before .before .before .before .before .before .before .before
+  abbrev start-of-After-slice-known21 : walk-lts.After-slice-known21 (walk-calls t) (walk-at t) walk.Post → walk-lts.Start (walk-calls t) (walk-at t) walk.Post
+  start-of-After-slice-known21 c = c .before .before .before .before .before .before .before .before .before .before .before .before .before .before .before .before .before .before .before
 
-  abbrev read-query-of-After-slice-known20 : walk-lts.After-slice-known20 (walk-calls t) (walk-at t) walk.Post → walk-lts.After-read-query (walk-calls t) (walk-at t) walk.Post
-  read-query-of-After-slice-known20 c = c .before .before .before .before .before .before .before .before .before .before .before .before .before
+  abbrev read-query-of-After-slice-known21 : walk-lts.After-slice-known21 (walk-calls t) (walk-at t) walk.Post → walk-lts.After-read-query (walk-calls t) (walk-at t) walk.Post
+  read-query-of-After-slice-known21 c = c .before .before .before .before .before .before .before .before .before .before .before .before .before
 
-  abbrev query7-of-After-slice-known20 : walk-lts.After-slice-known20 (walk-calls t) (walk-at t) walk.Post → walk-lts.After-query7 (walk-calls t) (walk-at t) walk.Post
-  query7-of-After-slice-known20 c = c .before .before .before .before .before .before .before .before .before .before .before
+  abbrev query7-of-After-slice-known21 : walk-lts.After-slice-known21 (walk-calls t) (walk-at t) walk.Post → walk-lts.After-query7 (walk-calls t) (walk-at t) walk.Post
+  query7-of-After-slice-known21 c = c .before .before .before .before .before .before .before .before .before .before .before
 
-  abbrev let-in-of-After-slice-known20 : walk-lts.After-slice-known20 (walk-calls t) (walk-at t) walk.Post → walk-lts.After-let-in (walk-calls t) (walk-at t) walk.Post
-  let-in-of-After-slice-known20 c = c .before .before .before .before .before .before
+  abbrev let-in-of-After-slice-known21 : walk-lts.After-slice-known21 (walk-calls t) (walk-at t) walk.Post → walk-lts.After-let-in (walk-calls t) (walk-at t) walk.Post
+  let-in-of-After-slice-known21 c = c .before .before .before .before .before .before
 
-  abbrev start-of-After-slice-known23 : walk-lts.After-slice-known23 (walk-calls t) (walk-at t) walk.Post → walk-lts.Start (walk-calls t) (walk-at t) walk.Post
-  start-of-After-slice-known23 c = c .before .before .before .before .before .before .before .before .before .before .before .before .before .before .before .before .before .before .before
+  abbrev start-of-After-slice-known24 : walk-lts.After-slice-known24 (walk-calls t) (walk-at t) walk.Post → walk-lts.Start (walk-calls t) (walk-at t) walk.Post
+  start-of-After-slice-known24 c = c .before .before .before .before .before .before .before .before .before .before .before .before .before .before .before .before .before .before .before
 
-  abbrev read-query-of-After-slice-known23 : walk-lts.After-slice-known23 (walk-calls t) (walk-at t) walk.Post → walk-lts.After-read-query (walk-calls t) (walk-at t) walk.Post
-  read-query-of-After-slice-known23 c = c .before .before .before .before .before .before .before .before .before .before .before .before .before
+  abbrev read-query-of-After-slice-known24 : walk-lts.After-slice-known24 (walk-calls t) (walk-at t) walk.Post → walk-lts.After-read-query (walk-calls t) (walk-at t) walk.Post
+  read-query-of-After-slice-known24 c = c .before .before .before .before .before .before .before .before .before .before .before .before .before
 
-  abbrev query8-of-After-slice-known23 : walk-lts.After-slice-known23 (walk-calls t) (walk-at t) walk.Post → walk-lts.After-query8 (walk-calls t) (walk-at t) walk.Post
-  query8-of-After-slice-known23 c = c .before .before .before .before .before .before .before .before .before .before .before
+  abbrev query8-of-After-slice-known24 : walk-lts.After-slice-known24 (walk-calls t) (walk-at t) walk.Post → walk-lts.After-query8 (walk-calls t) (walk-at t) walk.Post
+  query8-of-After-slice-known24 c = c .before .before .before .before .before .before .before .before .before .before .before
 
-  abbrev when-of-After-slice-known23 : walk-lts.After-slice-known23 (walk-calls t) (walk-at t) walk.Post → walk-lts.After-when (walk-calls t) (walk-at t) walk.Post
-  when-of-After-slice-known23 c = c .before .before .before .before .before .before
+  abbrev when-of-After-slice-known24 : walk-lts.After-slice-known24 (walk-calls t) (walk-at t) walk.Post → walk-lts.After-when (walk-calls t) (walk-at t) walk.Post
+  when-of-After-slice-known24 c = c .before .before .before .before .before .before
 
   pub read-query-requires : walk-lts.Need-read-query-requires (walk-calls t) (walk-at t) walk.Post
   read-query-requires c κs =
@@ -234,8 +234,8 @@ module _ (t : Prim.Native.Nat.ℕ) where
 
   pub child-requires : walk-lts.Need-child-requires (walk-calls t) (walk-at t) walk.Post
   child-requires c κs =
-      let h = (start-of-After-child-arg2 c) .pre .1 in
-      (h .begins, child-low _ _ (h .coded) (h .low) ((read-query-of-After-child-arg2 c) .read-query .ensures) ((query4-of-After-child-arg2 c) .query4 .given .1))
+      let h = (start-of-After-child-arg3 c) .pre .1 in
+      (h .begins, (child-low _ _ (h .coded) (h .low) ((read-query-of-After-child-arg3 c) .read-query .ensures) ((query4-of-After-child-arg3 c) .query4 .given .1), h .marked))
 
   pub enum-known-query-5 : walk-lts.Need-enum-known-query-5 (walk-calls t) (walk-at t) walk.Post
   enum-known-query-5 c = search needs
@@ -322,12 +322,12 @@ module _ (t : Prim.Native.Nat.ℕ) where
   pub same-length-8 : walk-lts.Need-same-length-8 (walk-calls t) (walk-at t) walk.Post
   same-length-8 c = search needs
 
-  pub returns-6 : walk-lts.Need-returns-6 (walk-calls t) (walk-at t) walk.Post
-  returns-6 c =
-      node-walks ((start-of-After-slice-known11 c) .pre .1) ((read-query-of-After-slice-known11 c) .read-query .ensures) _ ((query4-of-After-slice-known11 c) .query4 .given .1) ((child-of-After-slice-known11 c) .child .ensures)
-
   pub same-length-9 : walk-lts.Need-same-length-9 (walk-calls t) (walk-at t) walk.Post
   same-length-9 c = search needs
+
+  pub returns-6 : walk-lts.Need-returns-6 (walk-calls t) (walk-at t) walk.Post
+  returns-6 c =
+      node-walks ((start-of-After-slice-known12 c) .pre .1) ((read-query-of-After-slice-known12 c) .read-query .ensures) _ ((query4-of-After-slice-known12 c) .query4 .given .1) ((child-of-After-slice-known12 c) .child .ensures)
 
   pub same-length-10 : walk-lts.Need-same-length-10 (walk-calls t) (walk-at t) walk.Post
   same-length-10 c = search needs
@@ -335,12 +335,12 @@ module _ (t : Prim.Native.Nat.ℕ) where
   pub same-length-11 : walk-lts.Need-same-length-11 (walk-calls t) (walk-at t) walk.Post
   same-length-11 c = search needs
 
-  pub returns-7 : walk-lts.Need-returns-7 (walk-calls t) (walk-at t) walk.Post
-  returns-7 c =
-      node-walks ((start-of-After-slice-known14 c) .pre .1) ((read-query-of-After-slice-known14 c) .read-query .ensures) _ ((query5-of-After-slice-known14 c) .query5 .given .1) ((dos-of-After-slice-known14 c) .dos .ensures)
-
   pub same-length-12 : walk-lts.Need-same-length-12 (walk-calls t) (walk-at t) walk.Post
   same-length-12 c = search needs
+
+  pub returns-7 : walk-lts.Need-returns-7 (walk-calls t) (walk-at t) walk.Post
+  returns-7 c =
+      node-walks ((start-of-After-slice-known15 c) .pre .1) ((read-query-of-After-slice-known15 c) .read-query .ensures) _ ((query5-of-After-slice-known15 c) .query5 .given .1) ((dos-of-After-slice-known15 c) .dos .ensures)
 
   pub same-length-13 : walk-lts.Need-same-length-13 (walk-calls t) (walk-at t) walk.Post
   same-length-13 c = search needs
@@ -348,12 +348,12 @@ module _ (t : Prim.Native.Nat.ℕ) where
   pub same-length-14 : walk-lts.Need-same-length-14 (walk-calls t) (walk-at t) walk.Post
   same-length-14 c = search needs
 
-  pub returns-8 : walk-lts.Need-returns-8 (walk-calls t) (walk-at t) walk.Post
-  returns-8 c =
-      node-walks ((start-of-After-slice-known17 c) .pre .1) ((read-query-of-After-slice-known17 c) .read-query .ensures) _ ((query6-of-After-slice-known17 c) .query6 .given .1) ((for-in-of-After-slice-known17 c) .for-in .ensures)
-
   pub same-length-15 : walk-lts.Need-same-length-15 (walk-calls t) (walk-at t) walk.Post
   same-length-15 c = search needs
+
+  pub returns-8 : walk-lts.Need-returns-8 (walk-calls t) (walk-at t) walk.Post
+  returns-8 c =
+      node-walks ((start-of-After-slice-known18 c) .pre .1) ((read-query-of-After-slice-known18 c) .read-query .ensures) _ ((query6-of-After-slice-known18 c) .query6 .given .1) ((for-in-of-After-slice-known18 c) .for-in .ensures)
 
   pub same-length-16 : walk-lts.Need-same-length-16 (walk-calls t) (walk-at t) walk.Post
   same-length-16 c = search needs
@@ -361,12 +361,12 @@ module _ (t : Prim.Native.Nat.ℕ) where
   pub same-length-17 : walk-lts.Need-same-length-17 (walk-calls t) (walk-at t) walk.Post
   same-length-17 c = search needs
 
-  pub returns-9 : walk-lts.Need-returns-9 (walk-calls t) (walk-at t) walk.Post
-  returns-9 c =
-      node-walks ((start-of-After-slice-known20 c) .pre .1) ((read-query-of-After-slice-known20 c) .read-query .ensures) _ ((query7-of-After-slice-known20 c) .query7 .given .1) ((let-in-of-After-slice-known20 c) .let-in .ensures)
-
   pub same-length-18 : walk-lts.Need-same-length-18 (walk-calls t) (walk-at t) walk.Post
   same-length-18 c = search needs
+
+  pub returns-9 : walk-lts.Need-returns-9 (walk-calls t) (walk-at t) walk.Post
+  returns-9 c =
+      node-walks ((start-of-After-slice-known21 c) .pre .1) ((read-query-of-After-slice-known21 c) .read-query .ensures) _ ((query7-of-After-slice-known21 c) .query7 .given .1) ((let-in-of-After-slice-known21 c) .let-in .ensures)
 
   pub same-length-19 : walk-lts.Need-same-length-19 (walk-calls t) (walk-at t) walk.Post
   same-length-19 c = search needs
@@ -374,6 +374,9 @@ module _ (t : Prim.Native.Nat.ℕ) where
   pub same-length-20 : walk-lts.Need-same-length-20 (walk-calls t) (walk-at t) walk.Post
   same-length-20 c = search needs
 
+  pub same-length-21 : walk-lts.Need-same-length-21 (walk-calls t) (walk-at t) walk.Post
+  same-length-21 c = search needs
+
   pub returns-10 : walk-lts.Need-returns-10 (walk-calls t) (walk-at t) walk.Post
   returns-10 c =
-      node-walks ((start-of-After-slice-known23 c) .pre .1) ((read-query-of-After-slice-known23 c) .read-query .ensures) _ ((query8-of-After-slice-known23 c) .query8 .given .1) ((when-of-After-slice-known23 c) .when .ensures)
+      node-walks ((start-of-After-slice-known24 c) .pre .1) ((read-query-of-After-slice-known24 c) .read-query .ensures) _ ((query8-of-After-slice-known24 c) .query8 .given .1) ((when-of-After-slice-known24 c) .when .ensures)

@@ -1,0 +1,2 @@
+-- What the rules prime, content and filter do at one entry.
+pub mod Acts

@@ -1,2 +1,0 @@
--- What a test leaves of an entry.
-pub mod Kept
