@@ -31,9 +31,8 @@ use Rattle.grow.specs.Grow.{After}
 use Rattle.grow.specs.declared.Made.{Made}
 use Rattle.grow.specs.declared.Made.the-variants as Made
 use Rattle.grow.proofs.Tables.{lent-of}
-use Rattle.leaves.specs.Walk.{Within, Walks}
-use Rattle.leaves.specs.declared.Walked.{Walked}
-use Rattle.typing.specs.Walking.{Here}
+use Rattle.leaves.specs.Walk.{Within}
+use Rattle.typing.specs.Walking.{Here, Typed}
 use Rattle.typed.specs.Says.{Ready, Whole, Grows, fromRoot}
 
 -- an accepted job's tables, as they are held
@@ -92,7 +91,7 @@ module _ {types query : List ℕ} {count nodes : ℕ} {g : Given} (h : Ready typ
         }
 
     -- and what it leaves
-    pub walk-grows : {us cs ds : List ℕ} {r : Walked} → Walks D types us cs ds count (queryAt (codeOf query nodes) (nodes - 1)) s r → Grows types us (r .made) (fromRoot types query count nodes g)
-    walk-grows {us = us} {ds = ds} {r = r} w =
+    pub walk-grows : {us cs ds : List ℕ} {made : Made} → Typed D types us cs ds count (queryAt (codeOf query nodes) (nodes - 1)) s made → Grows types us made (fromRoot types query count nodes g)
+    walk-grows {us = us} {ds = ds} {made = made} w =
         let l = w .is declared shows in
-        record { answer = l .answer; long = l .long; whole = left-whole D us ds (r .made) (l .ready) }
+        record { answer = l .answer; long = l .long; whole = left-whole D us ds made (l .ready) }

@@ -57,7 +57,7 @@ fn settle(types: &mut [u16], query: &mut [u16], nodes: usize, given: Given, made
     }
 }
 
-// The walk from the root, in the scope of the declared variables. Classes and marks are scratch.
+// The walk from the root, in the scope of the declared variables. Classes, marks and the walk's stack are scratch.
 fn type_with(
     types: &mut [u16],
     query: &[u16],
@@ -66,8 +66,9 @@ fn type_with(
     given: Given,
     classes: &mut [u16],
     marks: &mut [u16],
+    stack: &mut [u16],
 ) -> Made
-    requires { ⌜ Ready (now types) (now query) count nodes given ⌝ ∗ ⌜ 4096 ≤ length (now classes) ⌝ ∗ ⌜ 4096 ≤ length (now marks) ⌝ }
+    requires { ⌜ Ready (now types) (now query) count nodes given ⌝ ∗ ⌜ 4096 ≤ length (now classes) ⌝ ∗ ⌜ 4096 ≤ length (now marks) ⌝ ∗ ⌜ 2048 ≤ length (now stack) ⌝ }
     ensures { λ r. ⌜ Grows (now (types .entry)) (now (types .exit)) r (fromRoot (now (types .entry)) (now (query .entry)) count nodes given) ⌝ }
 {
     let defs = given.defs;
@@ -75,7 +76,7 @@ fn type_with(
     classes::fill(types, count, &defs, given.used, classes);
     let scope = scope::declared(&vars, given.declared);
     let root = nodes - 1;
-    let walked = typing::walk(
+    typing::walk(
         types,
         classes,
         marks,
@@ -86,8 +87,8 @@ fn type_with(
         count,
         scope,
         root,
-    );
-    walked.made
+        stack,
+    )
 }
 
 // Typing what was read, with scratch for a table of full capacity.
@@ -103,7 +104,17 @@ fn type_tables(
 {
     let mut classes = [0u16; 4096];
     let mut marks = [0u16; 4096];
-    let made = type_with(types, query, count, nodes, given, &mut classes, &mut marks);
+    let mut stack = [0u16; 2048];
+    let made = type_with(
+        types,
+        query,
+        count,
+        nodes,
+        given,
+        &mut classes,
+        &mut marks,
+        &mut stack,
+    );
     settle(types, query, nodes, given, made)
 }
 

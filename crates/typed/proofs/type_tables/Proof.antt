@@ -1,6 +1,7 @@
 -- `typed::type_tables` meets its contract: the walk, and what is left after it. Assumes nothing.
 use Rattle.typed.proofs.Leaving.{walk-settled}
 use borrow.Author.Needs.{needs}
+use native.Mathlib.Omega.{arith}
 use Rattle.typed.proofs.type_tables.Statement.{statement}
 use Rattle.typed.proofs.type_tables.Tie as tie
 
@@ -9,6 +10,9 @@ slice-aggregate-type-with c = search needs
 
 slice-aggregate-type-with-2 : tie.Need-slice-aggregate-type-with-2
 slice-aggregate-type-with-2 c = search needs
+
+slice-aggregate-type-with-3 : tie.Need-slice-aggregate-type-with-3
+slice-aggregate-type-with-3 c = search needs
 
 type-with-requires : tie.Need-type-with-requires
 type-with-requires c κs = search needs
@@ -24,17 +28,7 @@ same-length-2 c = search needs
 
 returns : tie.Need-returns
 returns c =
-    let type-with = c .before .before .before .before .before .before .before .before .before .before .before .type-with in
-    walk-settled (type-with .ensures) (c .before .before .before .before .settle .ensures)
+    walk-settled ((c .before .before .before .before .before .before .before .before .before .before .before .before) .type-with .ensures) ((c .before .before .before .before) .settle .ensures)
 
 pub type-tables-spec : {M : Type 1} → statement M
-type-tables-spec =
-    tie.close
-    (tie.spec
-    slice-aggregate-type-with
-    slice-aggregate-type-with-2
-    type-with-requires
-    settle-requires
-    same-length
-    same-length-2
-    returns)
+type-tables-spec = tie.close (tie.spec slice-aggregate-type-with slice-aggregate-type-with-2 slice-aggregate-type-with-3 type-with-requires settle-requires same-length same-length-2 returns)
