@@ -78,7 +78,7 @@ pub fn answer_job(job: &[u8], types: &mut [u16], query: &mut [u16], answer: &mut
     let given = typed.given;
     match told {
         typed::Answer::Refused { number, place } => {
-            words::clear_bytes(answer);
+            words::clear_bytes(answer, 0);
             refusal(number, place)
         }
         typed::Answer::Accepted {

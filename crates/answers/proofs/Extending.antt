@@ -2,38 +2,37 @@
 -- Assumes nothing.
 use mathlib.Core.Path.{_≡_, refl, ap, sym, _∙_, subst}
 use mathlib.Core.List.{List, [], _∷_, _++_, append-assoc, append-nil}
-use Prim.Native.Nat.{ℕ, _+_, _-_, _≤_}
+use Prim.Native.Nat.{ℕ, _+_, _≤_}
 use native.Mathlib.Omega.{arith}
-use lib.ListN.{length, length-append}
-use Rattle.meaning.specs.Base.{bytesOf, zeros, padded}
+use lib.ListN.{length, take, drop, length-append}
+use lib.Seq.{length-take-le, take-append-add}
+use Rattle.meaning.specs.Base.{bytesOf}
 use Rattle.words.specs.Tables.{stored}
-use Rattle.words.proofs.Rows.{zeros-length, stored-behind}
 use Rattle.answers.specs.Parts.{Holds, Extends}
 
 pub extends-none : {from : ℕ} {t : List ℕ} → Extends from from [] t t
 extends-none {from} {t} =
-    record { next = omega arith; behind = λ {room} {ws} h. subst (λ (x : List ℕ). Holds room from x t) (sym (append-nil ws)) h }
+    record { next = omega arith; behind = λ {ws} h. subst (λ (x : List ℕ). Holds from x t) (sym (append-nil ws)) h }
 
 pub extends-then : {a b c : ℕ} {m n t u v : List ℕ} → Extends a b m t u → Extends b c n u v → Extends a c (m ++ n) t v
 extends-then {c = c} {m = m} {n = n} {v = v} one two =
     record {
       next = omega (arith, one .next, two .next, length-append m n);
-      behind = λ {room} {ws} h. subst (λ (x : List ℕ). Holds room c x v) (append-assoc ws m n) (two .behind (one .behind h));
+      behind = λ {ws} h. subst (λ (x : List ℕ). Holds c x v) (append-assoc ws m n) (two .behind (one .behind h));
     }
 
 -- one word
 pub extends-word : {t u : List ℕ} {at to : ℕ} (w : ℕ) → u ≡ stored t at (bytesOf (w ∷ [])) → at + 2 ≤ length t → to ≡ at + 2 → Extends at to (bytesOf (w ∷ [])) t u
-unfolding bytesOf
+unfolding bytesOf stored
 extends-word {t} {u} {at} {to} w e l n =
     let two = bytesOf (w ∷ []) in
+    let p : length (take at t) + 2 ≡ to = omega (arith, n, length-take-le at t (omega arith)) in
     record {
       next = n;
-      behind = λ {room} {ws} h.
-          let fits : length ws + length two ≤ room
-          = omega (arith, h .sized, ap length (h .is), length-append ws (zeros (room - length ws)), zeros-length (room - length ws)) in
+      behind = λ {ws} h.
           record {
             sized = omega (arith, h .sized, length-append ws two);
-            is = e ∙ rw (h .is, ← h .sized) (stored-behind room ws two fits);
+            is = ap (take to) e ∙ ap (λ (k : ℕ). take k (take at t ++ (two ++ drop (at + 2) t))) (sym p) ∙ take-append-add (take at t) (two ++ drop (at + 2) t) 2 ∙ ap (λ (x : List ℕ). x ++ two) (h .is);
           };
     }
 
@@ -45,7 +44,6 @@ start-put {at = at} size kind a p q r l m n =
     extends-then {b = at + 2} (extends-word size p (omega arith) refl)
     (extends-then {b = at + 4} (extends-word kind q (omega arith) (omega arith)) (extends-word a r (omega arith) (omega arith)))
 
--- what a buffer of zeros holds when something was written from its front
-pub all-held : (room : ℕ) {to : ℕ} {more t u : List ℕ} → Extends 0 to more t u → t ≡ zeros room → u ≡ padded room more
-all-held room x z =
-    x .behind {room = room} {ws = []} (record { sized = refl; is = z ∙ ap zeros {x = room} {y = room - 0} (omega arith) }) .is
+-- what a buffer holds when something was written from its front
+pub all-held : {to : ℕ} {more t u : List ℕ} → Extends 0 to more t u → take to u ≡ more
+all-held x = x .behind {ws = []} (record { sized = refl; is = refl }) .is

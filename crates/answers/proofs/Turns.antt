@@ -99,13 +99,13 @@ module _ (defs : List ℕ) (used : ℕ) where
     pub placed : place ≡ from + 6 * i
     pub put : Putting defRecord first 0 from before buffer place i
 
-  pub defining-none : {from : ℕ} {t : List ℕ} → Defining from t t from 0
-  defining-none = record { to = omega arith; long = refl; placed = omega arith; put = putting-none defRecord first }
+  pub defining-none : {from i : ℕ} {t : List ℕ} → i ≡ 0 → Defining from t t from i
+  defining-none {from} {t = t} e = rw e record { to = omega arith; long = refl; placed = omega arith; put = putting-none defRecord first }
 
-  pub defining-more : {from place i : ℕ} {t u v : List ℕ} → used ≤ length defs → Defining from t u place i → i < used → length v ≡ length u
-      → Extends place (place + 6) (defRecord (getD defs i 0)) u v → Defining from t v (place + 6) (i + 1)
-  defining-more {place = place} {i = i} {u = u} {v = v} inside s h l x =
-      record {
+  pub defining-more : {from place i next : ℕ} {t u v : List ℕ} → used ≤ length defs → Defining from t u place i → i < used → next ≡ i + 1 → length v ≡ length u
+      → Extends place (place + 6) (defRecord (getD defs i 0)) u v → Defining from t v (place + 6) next
+  defining-more {place = place} {i = i} {u = u} {v = v} inside s h e l x =
+      rw e record {
         to = omega arith;
         long = l ∙ s .long;
         placed = omega (arith, s .placed);

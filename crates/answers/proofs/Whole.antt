@@ -1,13 +1,13 @@
 -- The whole file: its length, its parts one behind the other, and what is left in the buffer where it fits and where it does not.
 -- Assumes nothing.
-use mathlib.Core.Path.{_≡_, ap, subst}
+use mathlib.Core.Path.{_≡_, refl, ap, subst, _∙_}
 use mathlib.Core.List.{List, [], _∷_, _++_}
 use Prim.Native.Nat.{ℕ, _+_, _*_, _≤_, _<_}
 use native.Mathlib.Omega.{arith}
 use lib.ListN.{length, take, length-append}
 use lib.Seq.{length-take-le}
 use borrow.Author.Tests.{le-leb, lt-leb}
-use Rattle.meaning.specs.Base.{bytesOf, zeros}
+use Rattle.meaning.specs.Base.{bytesOf, zeros, padded}
 use Rattle.meaning.specs.Kinds
 use Rattle.meaning.specs.Types.{Table, Defs}
 use Rattle.meaning.specs.Answers.{recordOf, answerFile, fitted}
@@ -63,10 +63,11 @@ module _ {types defs : List ℕ} {count used result : ℕ} (r : Ready types coun
       let place : last + 6 ≡ length file = omega (arith, all .next) in
       subst (λ (n : ℕ). Extends 0 n file t x) place all
 
-  -- what is left: the file, or zeros
-  pub left-written : (room : ℕ) {n : ℕ} {t u : List ℕ} → n ≡ length file → n ≤ room → t ≡ zeros room → Extends 0 (length file) file t u → Left room (Bytes n) u (fitted room file)
-  left-written room e h z x =
-      record { answer = simp (le-leb (length file) room (omega arith)) (ap Bytes e); bytes = simp (le-leb (length file) room (omega arith)) (all-held room x z) }
+  -- what is left: the file with zeros after it, or zeros
+  pub left-written : (room : ℕ) {n : ℕ} {t u v : List ℕ} → n ≡ length file → n ≤ room → Extends 0 (length file) file t u → length u ≡ room → v ≡ padded (length u) (take n u) → Left room (Bytes n) v (fitted room file)
+  left-written room {n} {u = u} e h x l z =
+      let held : take n u ≡ file = ap (λ (k : ℕ). take k u) e ∙ all-held x in
+      record { answer = simp (le-leb (length file) room (omega arith)) (ap Bytes e); bytes = simp (le-leb (length file) room (omega arith)) (z ∙ rw (l, held) refl) }
 
   pub left-short : (room : ℕ) {n : ℕ} {u : List ℕ} → n ≡ length file → room < n → u ≡ zeros room → Left room (Short n) u (fitted room file)
   left-short room e h z =

@@ -3,8 +3,8 @@
 use mathlib.Core.Path.{_≡_}
 use mathlib.Core.List.{List, _++_}
 use Prim.Native.Nat.{ℕ, _+_, _*_, _≤_}
-use lib.ListN.{length, drop}
-use Rattle.meaning.specs.Base.{concatMap, padded, typeWidth}
+use lib.ListN.{length, take, drop}
+use Rattle.meaning.specs.Base.{concatMap, typeWidth}
 use Rattle.meaning.specs.Types.{Table, Defs}
 use Rattle.meaning.specs.Formed.{Formed}
 use Rattle.meaning.specs.Answers.{typeRecord, defRecord}
@@ -28,12 +28,12 @@ pub record Recorded (kind : ℕ) : Type 0 where
   pub least : 3 ≤ kind
   pub most : kind ≤ 9
 
--- a lent buffer of so many bytes that holds these up to a place, with zeros after
-pub record Holds (room place : ℕ) (ws buffer : List ℕ) : Type 0 where
+-- a lent buffer that holds these bytes up to a place
+pub record Holds (place : ℕ) (ws buffer : List ℕ) : Type 0 where
   pub sized : length ws ≡ place
-  pub is : buffer ≡ padded room ws
+  pub is : take place buffer ≡ ws
 
 -- a buffer that is written on from one place to another: whatever it held, it holds `more` behind that
 pub record Extends (from to : ℕ) (more before after : List ℕ) : Type 0 where
   pub next : to ≡ from + length more
-  pub behind : {room : ℕ} {ws : List ℕ} → Holds room from ws before → Holds room to (ws ++ more) after
+  pub behind : {ws : List ℕ} → Holds from ws before → Holds to (ws ++ more) after

@@ -87,11 +87,11 @@ fn put_defs(defs: &[u16], used: usize, answer: &mut [u8], from: usize) -> usize
     ensures { λ r. ⌜ Extends from r (defBytes (take used (now (defs .entry)))) (now (answer .entry)) (now (answer .exit)) ⌝ }
 {
     let mut at = from;
-    let mut d = 0;
-    while d < used {
-        put_start(answer, at, 6, 16, defs[d]);
+    let mut left = used;
+    while 0 < left {
+        put_start(answer, at, 6, 16, defs[used - left]);
         at += 6;
-        d += 1;
+        left -= 1;
     }
     at
 }
@@ -118,11 +118,12 @@ pub fn write(
     requires { ⌜ Ready (now types) count (now defs) used result ⌝ }
     ensures { λ r. ⌜ Left (length (now (answer .entry))) r (now (answer .exit)) (fitted (length (now (answer .entry))) (answerFile (tableOf (now (types .entry)) count) (take used (now (defs .entry))) result)) ⌝ }
 {
-    words::clear_bytes(answer);
     let needed = types_size(types, count) + 6 * used + 6;
     if answer.len() < needed {
+        words::clear_bytes(answer, 0);
         return Written::Short(needed);
     }
     put_file(types, count, defs, used, result as u16, answer);
+    words::clear_bytes(answer, needed);
     Written::Bytes(needed)
 }

@@ -1,15 +1,15 @@
 -- What one word after another stores; what a cleared and a copied list is.
 -- Assumes nothing.
-use Prim.Native.Nat.{ℕ, _+_, _≤_, _<_}
+use Prim.Native.Nat.{ℕ, suc, _+_, _-_, _≤_, _<_}
 use mathlib.Core.Path.{_≡_, refl, sym, ap, _∙_}
 use mathlib.Core.List.{List, [], _∷_, _++_, append-assoc, append-nil}
 use native.Mathlib.Omega.{arith}
 use native.Mathlib.Nat.{le-antisymm}
 use native.Mathlib.Numerals.{add-one, add-two, add-three}
-use lib.ListN.{length, replicate, take, drop, set, getD, drop-of-length-le}
-use lib.Seq.{sets, sets-eq, paste, paste-suc, take-length}
+use lib.ListN.{length, replicate, take, drop, set, getD, drop-of-length-le, length-take, length-drop, length-set, take-append-drop}
+use lib.Seq.{sets, sets-eq, paste, paste-suc, take-length, length-take-le}
 use borrow.Author.Fill.{fill-more}
-use Rattle.meaning.specs.Base.{zeros}
+use Rattle.meaning.specs.Base.{zeros, padded}
 use Rattle.words.specs.Tables.{stored}
 
 -- words stored one by one from a place on
@@ -36,6 +36,56 @@ cleared-more d n t e l = ap (λ (x : List ℕ). set x n 0) e ∙ fill-more n 0 d
 pub cleared-all : (d : List ℕ) (n : ℕ) (t : List ℕ) → Cleared d n t → length d ≤ n → t ≡ zeros (length d)
 unfolding zeros
 cleared-all d n t h l = h .2 ∙ rw (drop-of-length-le d l, append-nil, le-antisymm (h .0) l) refl
+
+-- a list that is cleared from a place on, up to another
+pub record Blanked (d : List ℕ) (from i : ℕ) (t : List ℕ) : Type 0 where
+  pub low : from ≤ i
+  pub long : length t ≡ length d
+  pub most : i - from ≤ length d - from
+  pub is : t ≡ take from d ++ (replicate (i - from) 0 ++ drop (i - from) (drop from d))
+
+set-behind : (xs ys : List ℕ) (n v : ℕ) → set (xs ++ ys) (length xs + n) v ≡ xs ++ set ys n v
+set-behind [] ys n v = ap (λ (k : ℕ). set ys k v) {x = 0 + n} {y = n} (omega arith)
+set-behind (x ∷ xs) ys n v =
+    ap (λ (k : ℕ). set (x ∷ (xs ++ ys)) k v) {x = suc (length xs) + n} {y = suc (length xs + n)} (omega arith) ∙ ap (λ (r : List ℕ). x ∷ r) (set-behind xs ys n v)
+
+pub blanked-none : (d : List ℕ) (from : ℕ) → Blanked d from from d
+blanked-none d from =
+    let z : from - from ≡ 0 = omega arith in
+    record { low = omega arith; long = refl; most = omega arith; is = rw z (sym (take-append-drop from d)) }
+
+pub blanked-more : {d t : List ℕ} {from i : ℕ} → Blanked d from i t → i < length t → Blanked d from (i + 1) (set t i 0)
+blanked-more {d} {t} {from} {i} b l =
+    let n : ℕ = i - from in
+    let p : length (take from d) + n ≡ i = omega (arith, b .low, b .long, length-take-le from d (omega (arith, b .low, b .long))) in
+    let q : i + 1 - from ≡ n + 1 = omega (arith, b .low) in
+    record {
+      low = omega (arith, b .low);
+      long = length-set t i 0 ∙ b .long;
+      most = omega (arith, b .low, b .long);
+      is =
+          ap (λ (x : List ℕ). set x i 0) (b .is)
+          ∙ ap (λ (k : ℕ). set (take from d ++ (replicate n 0 ++ drop n (drop from d))) k 0) (sym p)
+          ∙ set-behind (take from d) (replicate n 0 ++ drop n (drop from d)) n 0
+          ∙ ap (λ (x : List ℕ). take from d ++ x) (fill-more n 0 (drop from d) (omega (arith, length-drop from d, b .long)))
+          ∙ ap (λ (k : ℕ). take from d ++ (replicate k 0 ++ drop k (drop from d))) (sym q);
+    }
+
+pub blanked-all : {d t : List ℕ} {from i : ℕ} → Blanked d from i t → length t ≤ i → t ≡ padded (length d) (take from d)
+unfolding zeros
+blanked-all {d} {t} {from} {i} b l =
+    let n : ℕ = i - from in
+    let whole : n ≡ length d - from = omega (arith, b .most, b .long) in
+    let rest : n ≡ length d - length (take from d) = omega (arith, whole, length-take from d) in
+    let short : length (drop from d) ≤ n = omega (arith, length-drop from d, whole) in
+    b .is
+    ∙ ap (λ (x : List ℕ). take from d ++ (replicate n 0 ++ x)) (drop-of-length-le (drop from d) short)
+    ∙ ap (λ (x : List ℕ). take from d ++ x) (append-nil (replicate n 0))
+    ∙ ap (λ (k : ℕ). take from d ++ replicate k 0) rest
+
+-- cleared from its front on, it is all zeros
+pub blanked-whole : (d : List ℕ) {t : List ℕ} → t ≡ padded (length d) (take 0 d) → t ≡ zeros (length d)
+blanked-whole d e = e ∙ ap zeros {x = length d - 0} {y = length d} (omega arith)
 
 -- a list whose first n elements are copied
 abbrev pub Copied : List ℕ → List ℕ → ℕ → List ℕ → Type 0

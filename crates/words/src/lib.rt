@@ -3,8 +3,8 @@
 ghost use mathlib.Core.Path.{_≡_};
 ghost use mathlib.Core.List.{[], _∷_};
 ghost use Prim.Native.Nat.{_+_, _*_, _≤_, _<_};
-ghost use lib.ListN.{length, getD};
-ghost use Rattle.meaning.specs.Base.{word, bytesOf, zeros, typeWidth, codeWidth, typeCapacity, codeCapacity, workCapacity};
+ghost use lib.ListN.{length, getD, take};
+ghost use Rattle.meaning.specs.Base.{word, bytesOf, zeros, padded, typeWidth, codeWidth, typeCapacity, codeCapacity, workCapacity};
 ghost use Rattle.meaning.specs.Forests.{passes};
 ghost use Rattle.meaning.specs.Records.{isCondition};
 ghost use Rattle.words.specs.Tables.{stored};
@@ -141,11 +141,11 @@ pub fn clear(t: &mut [u16])
     }
 }
 
-// Zeros in the whole of a buffer.
-pub fn clear_bytes(t: &mut [u8])
-    ensures { λ _. ⌜ now (t .exit) ≡ zeros (length (now (t .entry))) ⌝ }
+// Zeros in a buffer from an offset on.
+pub fn clear_bytes(t: &mut [u8], from: usize)
+    ensures { λ _. ⌜ now (t .exit) ≡ padded (length (now (t .entry))) (take from (now (t .entry))) ⌝ }
 {
-    let mut i = 0;
+    let mut i = from;
     while i < t.len() {
         t[i] = 0;
         i += 1;
