@@ -2,17 +2,15 @@
 -- Assumes nothing.
 use mathlib.Core.Path.{_≡_}
 use mathlib.Core.List.{List}
-use Prim.Native.Nat.{ℕ, _<_}
+use Prim.Native.Nat.{ℕ}
 use lib.ListN.{length}
-use Rattle.meaning.specs.Base.{Out, ok, refused, _>>=_, concatMap, padded}
-use Rattle.meaning.specs.Types.{tableWords}
-use Rattle.meaning.specs.Records.{nodeWords}
-use Rattle.meaning.specs.Formed.{Formed}
+use Rattle.meaning.specs.Base.{Out, ok, refused, _>>=_}
 use Rattle.meaning.specs.Typing.{Typed, typedTypes, typedCode}
 use Rattle.meaning.specs.Answers as Answers
 use Rattle.meaning.specs.Answers.{answerFile, fitted, typedOf, answerBytes}
 use Rattle.reading.specs.declared.Given.{Given}
 use Rattle.reading.specs.Says.{givenOf, nothingGiven}
+use Rattle.typed.specs.Says.{Holds}
 use Rattle.answered.specs.declared.Answer.the-variants.{Accepted, Refused}
 use Rattle.answered.specs.declared.Answered.{Answered}
 
@@ -28,17 +26,6 @@ pub record Left (tw cw room : ℕ) (r : Answered) (u w b : List ℕ) (o : Out An
   pub types : u ≡ typedTypes tw (typedOf o)
   pub code : w ≡ typedCode cw (typedOf o)
   pub bytes : b ≡ answerBytes room o
-
--- lent tables as an accepted typing leaves them: those of t
-pub record Holds (types query : List ℕ) (result count nodes : ℕ) (g : Given) (t : Typed) : Type 0 where
-  pub formed : Formed (t .job .defs) (t .left .types)
-  pub low : t .result < length (t .left .types)
-  pub words : types ≡ padded (length types) (tableWords (t .left .types))
-  pub code : query ≡ padded (length query) (concatMap nodeWords (t .job .code))
-  pub named : result ≡ t .result
-  pub entries : count ≡ length (t .left .types)
-  pub nodes-are : nodes ≡ length (t .job .code)
-  pub is : g ≡ givenOf (t .job)
 
 -- a typed job's file, if it fits
 abbrev pub answering : ℕ → Typed → Out Answers.Answered

@@ -5,3 +5,5 @@ pub mod Typings
 pub mod Calls
 pub mod RoundTrip
 pub mod Longest
+pub mod Older
+pub mod Runs

@@ -46,7 +46,7 @@ J =
     Worked.jobOf
     ((32 ∷ []) ∷ (34 ∷ 2 ∷ 0 ∷ []) ∷ (32 ∷ []) ∷ (34 ∷ 3 ∷ 2 ∷ []) ∷ (32 ∷ []) ∷ (34 ∷ 2 ∷ 4 ∷ []) ∷ (35 ∷ 3 ∷ 5 ∷ []) ∷ (35 ∷ 1 ∷ 6 ∷ []) ∷ (36 ∷ 0 ∷ []) ∷ (39 ∷ 0 ∷ 7 ∷ 8 ∷ []) ∷ [])
 
-J-tables : Tables
+unfoldable pub J-tables : Tables
 J-tables =
     record {
       types = base;
@@ -57,7 +57,7 @@ J-tables =
       section = Records.query;
     }
 
-J-typed : Typing.Typed
+unfoldable pub J-typed : Typing.Typed
 J-typed =
     record {
       job = J-tables;
@@ -85,7 +85,7 @@ unfolding everything J-typed J-words
 J-written = refl
 
 -- with the least room; and with more
-abbrev room : ℕ → ℕ → Caps
+abbrev pub room : ℕ → ℕ → Caps
 room types code = record { types = types; code = code }
 
 P10-least : typeJob (room 2 1) P10 ≡ ok P10-typed
@@ -96,7 +96,7 @@ nothing-least : typeJob (room 2 1) nothing ≡ ok nothing-typed
 unfolding everything nothing nothing-typed
 nothing-least = refl
 
-J-least : typeJob (room 10 10) J ≡ ok J-typed
+pub J-least : typeJob (room 10 10) J ≡ ok J-typed
 unfolding everything J J-typed J-tables
 J-least = refl
 
@@ -108,7 +108,7 @@ J-full : typeTables 9 J-tables ≡ refused 16 9
 unfolding everything J-tables
 J-full = refl
 
-typed-with : (job : List ℕ) {t : Typing.Typed} (n m types query : ℕ) → typeJob (room n m) job ≡ ok t → n ≤ typeCapacity types → m ≤ codeCapacity query → typeJob (capsOf types query) job ≡ ok t
+pub typed-with : (job : List ℕ) {t : Typing.Typed} (n m types query : ℕ) → typeJob (room n m) job ≡ ok t → n ≤ typeCapacity types → m ≤ codeCapacity query → typeJob (capsOf types query) job ≡ ok t
 typed-with job n m types query e l k = keeps-ok (typing-keeps (room n m) (capsOf types query) l k job) e
 
 J-refused : (types query : ℕ) → 27 ≤ types → types < 30 → 40 ≤ query → typeJob (capsOf types query) J ≡ refused 16 9

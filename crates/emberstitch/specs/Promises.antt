@@ -3,13 +3,15 @@
 use mathlib.Core.Path.{_≡_}
 use mathlib.Core.List.{List}
 use Prim.Native.Nat.{ℕ, _+_, _*_, _<_}
-use Rattle.meaning.specs.Base.{Out, capsOf}
+use Rattle.meaning.specs.Base.{Out, capsOf, workCapacity}
 use Rattle.meaning.specs.Records.{Tables}
 use Rattle.meaning.specs.Typing as Typing
 use Rattle.meaning.specs.Typing.{readTypes, readCode, typedTypes, typedCode, typeJob}
 use Rattle.meaning.specs.Checks.{readJob}
 use Rattle.meaning.specs.Answers as Answers
 use Rattle.meaning.specs.Answers.{answerJob, answerBytes, backTables, readAnswer, full, packed}
+use Rattle.meaning.specs.Running as Running
+use Rattle.meaning.specs.Running.{runJob, ranTyped, workWords}
 use Rattle.jobs.specs.declared.Job.{Job}
 use Rattle.jobs.specs.Says.{jobOf}
 use Rattle.typed.specs.declared.Typed.{Typed}
@@ -20,6 +22,8 @@ use Rattle.answered.specs.declared.Answered.{Answered}
 use Rattle.answered.specs.Says.{answeredOf}
 use Rattle.back.specs.declared.Back.{Back}
 use Rattle.back.specs.Says.{backOf}
+use Rattle.ran.specs.declared.Ran.{Ran}
+use Rattle.ran.specs.Says.{ranOf}
 
 -- what reading gives for these bytes, with type and query tables of so many words
 abbrev pub jobRead : List ℕ → ℕ → ℕ → Out Tables
@@ -61,6 +65,18 @@ fileRead file types = readAnswer (capsOf types 0) file
 pub record ReadAnswer (file : List ℕ) (types : ℕ) (r : Back) (typesLeft : List ℕ) : Type 0 where
   pub answer : r ≡ backOf (fileRead file types)
   pub types-left : typesLeft ≡ readTypes types (backTables (fileRead file types))
+
+-- what running gives for them on these values, with a work table of so many words
+abbrev pub jobRan : List ℕ → List ℕ → ℕ → ℕ → ℕ → Out Running.Ran
+jobRan job values types query work = runJob (capsOf types query) (workCapacity work) job values
+
+-- RUNNING A JOB: the answer is 01's; accepted, the type and query tables are as typing leaves them and the work table has the values, the result, then
+-- zeros; refused, all are zero
+pub record RunJob (job values : List ℕ) (types query work : ℕ) (r : Ran) (typesLeft queryLeft workLeft : List ℕ) : Type 0 where
+  pub answer : r ≡ ranOf (jobRan job values types query work)
+  pub types-left : typesLeft ≡ typedTypes types (ranTyped (jobRan job values types query work))
+  pub query-left : queryLeft ≡ typedCode query (ranTyped (jobRan job values types query work))
+  pub work-left : workLeft ≡ workWords work (jobRan job values types query work)
 
 -- THE C CALL: the number is 01's, "the answer's length or 2^32 times the refusal plus the place", of answering at full capacity; accepted, the buffer
 -- has the answer file, then zeros; refused, it is zero

@@ -2,11 +2,12 @@
 // final contents of all that it is lent.
 ghost use mathlib.Core.Path.{_≡_};
 ghost use lib.ListN.{length};
-ghost use Rattle.emberstitch.specs.Promises.{ReadJob, TypeJob, AnswerJob, ReadAnswer, Call, numberOf, Small};
+ghost use Rattle.emberstitch.specs.Promises.{ReadJob, TypeJob, AnswerJob, ReadAnswer, RunJob, Call, numberOf, Small};
 use answered::Answer;
 use answered::Answered;
 use back::Back;
 use jobs::Job;
+use ran::Ran;
 use typed::Typed;
 
 // Reads a job: the type table and the query table, the definitions and the declared variables; or a refusal, 1 to 12, with its place, and both tables
@@ -37,6 +38,20 @@ pub fn read_answer(file: &[u8], types: &mut [u16]) -> Back
     ensures { λ r. ⌜ ReadAnswer (now (file .entry)) (length (now (types .entry))) r (now (types .exit)) ⌝ }
 {
     back::read_answer(file, types)
+}
+
+// Runs a job on values: types it, loads the values into the work table, and leaves the query's forest behind them; or a refusal, 1 to 16 or 18 to 21,
+// with its place, and every word of the three tables zero.
+pub fn run_job(
+    job: &[u8],
+    values: &[u8],
+    types: &mut [u16],
+    query: &mut [u16],
+    work: &mut [u16],
+) -> Ran
+    ensures { λ r. ⌜ RunJob (now (job .entry)) (now (values .entry)) (length (now (types .entry))) (length (now (query .entry))) (length (now (work .entry))) r (now (types .exit)) (now (query .exit)) (now (work .exit)) ⌝ }
+{
+    ran::run_job(job, values, types, query, work)
 }
 
 // The number of an answer: its length, or 2^32 times the refusal plus the place.

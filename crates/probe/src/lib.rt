@@ -1,7 +1,7 @@
 // Every public operation for C, over tables of any length: for tests and benchmarks alone. Users link `emberstitch`, which has the one call that they need.
 // Each call leaves its answer in `out`, as much of it as there is room for: the refusal or 0, its place, how many type entries and query nodes there are,
-// the result's entry, the answer file's length, how many definitions and declared variables there are; from 8 on 64 definitions, from 72 on the three words
-// of 16 variables. It is 0 for what the operation does not tell.
+// the entry of the result's type, the answer file's length or how many forest entries a run's result has, how many definitions and declared variables there
+// are; from 8 on 64 definitions, from 72 on the three words of 16 variables; at 120 a run's first entry. It is 0 for what the operation does not tell.
 use reading::Given;
 
 // What the answers of all operations tell.
@@ -12,9 +12,10 @@ struct Told {
     nodes: usize,
     result: usize,
     length: usize,
+    first: usize,
 }
 
-fn accepted(types: usize, nodes: usize, result: usize, length: usize) -> Told {
+fn accepted(types: usize, nodes: usize, result: usize, length: usize, first: usize) -> Told {
     Told {
         number: 0,
         place: 0,
@@ -22,6 +23,7 @@ fn accepted(types: usize, nodes: usize, result: usize, length: usize) -> Told {
         nodes,
         result,
         length,
+        first,
     }
 }
 
@@ -33,12 +35,13 @@ fn refused(number: u16, place: usize) -> Told {
         nodes: 0,
         result: 0,
         length: 0,
+        first: 0,
     }
 }
 
 fn of_job(answer: jobs::Answer) -> Told {
     match answer {
-        jobs::Answer::Accepted { types, nodes } => accepted(types, nodes, 0, 0),
+        jobs::Answer::Accepted { types, nodes } => accepted(types, nodes, 0, 0, 0),
         jobs::Answer::Refused { number, place } => refused(number, place),
     }
 }
@@ -49,7 +52,7 @@ fn of_typed(answer: typed::Answer) -> Told {
             result,
             types,
             nodes,
-        } => accepted(types, nodes, result, 0),
+        } => accepted(types, nodes, result, 0, 0),
         typed::Answer::Refused { number, place } => refused(number, place),
     }
 }
@@ -61,15 +64,28 @@ fn of_answered(answer: answered::Answer) -> Told {
             result,
             types,
             nodes,
-        } => accepted(types, nodes, result, length),
+        } => accepted(types, nodes, result, length, 0),
         answered::Answer::Refused { number, place } => refused(number, place),
     }
 }
 
 fn of_back(answer: back::Answer) -> Told {
     match answer {
-        back::Answer::Accepted { result, types } => accepted(types, 0, result, 0),
+        back::Answer::Accepted { result, types } => accepted(types, 0, result, 0, 0),
         back::Answer::Refused { number, place } => refused(number, place),
+    }
+}
+
+fn of_ran(answer: ran::Answer) -> Told {
+    match answer {
+        ran::Answer::Accepted {
+            first,
+            length,
+            result,
+            types,
+            nodes,
+        } => accepted(types, nodes, result, length, first),
+        ran::Answer::Refused { number, place } => refused(number, place),
     }
 }
 
@@ -87,6 +103,7 @@ fn put_told(out: &mut [u64], told: Told) {
     put(out, 3, told.nodes);
     put(out, 4, told.result);
     put(out, 5, told.length);
+    put(out, 120, told.first);
 }
 
 // Words from a place on, as many as there is room for.
@@ -159,4 +176,19 @@ pub extern "C" fn probe_read_answer(file: &[u8], types: &mut [u16], out: &mut [u
     let kind = back.answer;
     let given = back.given;
     leave(of_back(kind), given, out);
+}
+
+#[no_mangle]
+pub extern "C" fn probe_run_job(
+    job: &[u8],
+    values: &[u8],
+    types: &mut [u16],
+    query: &mut [u16],
+    work: &mut [u16],
+    out: &mut [u64],
+) {
+    let ran = emberstitch::run_job(job, values, types, query, work);
+    let kind = ran.answer;
+    let given = ran.given;
+    leave(of_ran(kind), given, out);
 }

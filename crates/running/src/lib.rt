@@ -245,7 +245,7 @@ fn for_in(
         source.scope,
         held,
         &mut rest[top..],
-        end,
+        end, // behind the whole source
         v,
         at,
         end,

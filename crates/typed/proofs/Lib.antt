@@ -1,3 +1,4 @@
 -- Laws of typing a job.
 pub mod Beginning
 pub mod Leaving
+pub mod Telling

@@ -5,7 +5,7 @@ use mathlib.Core.List.{List}
 use Prim.Native.Nat.{ℕ, _*_, _-_, _≤_, _<_}
 use lib.ListN.{length, take}
 use Rattle.meaning.specs.Base.{Out, ok, refused, padded, concatMap, typeCapacity}
-use Rattle.meaning.specs.Types.{Table}
+use Rattle.meaning.specs.Types.{Table, tableWords}
 use Rattle.meaning.specs.Records.{nodeWords, Tables}
 use Rattle.meaning.specs.Formed.{Formed, VarsRead}
 use Rattle.meaning.specs.Queries.{queryAt}
@@ -72,3 +72,14 @@ pub record Settled (us query : List ℕ) (nodes : ℕ) (g : Given) (made : Made)
 -- what typing makes of tables that are held
 pub record Answers (types query : List ℕ) (count nodes : ℕ) (g : Given) (r : Typed) (u w : List ℕ) : Type 0 where
   pub leaves : (t : Tables) → Held (length types) (length query) types query g count nodes t → Left (length types) (length query) r u w (typeTables (typeCapacity (length types)) t)
+
+-- lent tables as an accepted typing leaves them: those of t
+pub record Holds (types query : List ℕ) (result count nodes : ℕ) (g : Given) (t : Typing.Typed) : Type 0 where
+  pub formed : Formed (t .job .defs) (t .left .types)
+  pub low : t .result < length (t .left .types)
+  pub words : types ≡ padded (length types) (tableWords (t .left .types))
+  pub code : query ≡ padded (length query) (concatMap nodeWords (t .job .code))
+  pub named : result ≡ t .result
+  pub entries : count ≡ length (t .left .types)
+  pub nodes-are : nodes ≡ length (t .job .code)
+  pub is : g ≡ givenOf (t .job)

@@ -1,18 +1,23 @@
 -- For callers: after an accepted load each variable's entries stand between the end of the one before it and its own end, as the words of its forest.
 -- Assumes nothing.
 use mathlib.Core.Path.{_≡_, refl, sym, ap, _∙_}
+use mathlib.Core.Bool.{_&&_}
 use mathlib.Core.List.{List, [], _∷_, _++_, append-assoc, map}
 use Prim.Native.Nat.{ℕ, zero, suc, _+_, _*_, _-_, _≤_, _<_}
 use native.Mathlib.Omega.{arith}
-use lib.Dec.{leb}
+use lib.Dec.{leb, eqb}
+use borrow.Author.Tests.{leb-true}
 use lib.ListN.{length, getD, take, drop, length-append, List·getD-append}
 use lib.Seq.{take-at, drop-at}
-use Rattle.meaning.specs.Base.{Out, ok, refused, refuseAt, At, zeros, padded, forestWidth}
+use Rattle.meaning.specs.Base.{Out, ok, refused, refuseAt, At, concatMap, zeros, padded, forestWidth}
+use Rattle.meaning.specs.Kinds.{value·variable}
 use Rattle.meaning.specs.Forests.{Forest, size, forestWords}
-use Rattle.meaning.specs.Records.{Var}
-use Rattle.meaning.specs.Values.{readValue, Value, readValues, odd, entryPlaces, loadValues, joined}
+use Rattle.meaning.specs.Records.{field, Var}
+use Rattle.meaning.specs.Values.{Part, valueAt, readValue, Value, readValues, odd, entryPlaces, loadValues, joined}
 use Rattle.meaning.proofs.Lists.{absurd-option, at-low}
-use Rattle.meaning.proofs.Forests.{words-join, length-words}
+use Rattle.meaning.proofs.Ends.{ends-ok}
+use Rattle.meaning.proofs.Forests.{size-join, words-join, length-words}
+use Rattle.meaning.proofs.Values.{forest-ends}
 use Rattle.values.specs.declared.Answer.the-variants as Answer
 use Rattle.values.specs.declared.Loaded.{Loaded}
 use Rattle.values.specs.Says.{endsFrom, endsOf, loadedOf, Left}
@@ -109,10 +114,36 @@ values-declared (x ∷ xs) s at {vs} e =
     let z : record { declared = x; place = at; part = p } ∷ ws ≡ vs = cc in
     ap (map (λ (v : Value). v .declared)) (sym z) ∙ ap (x ∷_) (values-declared xs s (p .next) h)
 
-pub load-declared : (room : ℕ) (vars : List (ℕ × Var)) (s : List ℕ) {vs : List Value} → loadValues room vars s ≡ ok vs → map (λ (v : Value). v .declared) vs ≡ vars
+-- what was loaded was read, and has room
+pub load-read : (room : ℕ) (vars : List (ℕ × Var)) (s : List ℕ) {vs : List Value} → loadValues room vars s ≡ ok vs → (readValues vars s 0 ≡ ok vs) × (length (entryPlaces vs) ≤ room)
 unfolding loadValues
-load-declared room vars s {vs} e =
+load-read room vars s {vs} e =
     bound (readValues vars s 0) _ e λ ws f g.
     bound (refuseAt 19 (odd ws)) _ g λ _ _ k.
-    let z : ws ≡ vs = let t = tested-ok (leb (length (entryPlaces ws)) room) 20 (getD (entryPlaces ws) room 0) k .1 in cc in
-    rw z at (values-declared vars s 0 f)
+    let t = tested-ok (leb (length (entryPlaces ws)) room) 20 (getD (entryPlaces ws) room 0) k in
+    let z : ws ≡ vs = let u = t .1 in cc in
+    rw (← z) (f, leb-true (length (entryPlaces ws)) room (t .0))
+
+pub load-declared : (room : ℕ) (vars : List (ℕ × Var)) (s : List ℕ) {vs : List Value} → loadValues room vars s ≡ ok vs → map (λ (v : Value). v .declared) vs ≡ vars
+load-declared room vars s e = values-declared vars s 0 (load-read room vars s e .0)
+
+-- and they have an entry for each record, so they fit
+value-sized : (v : ℕ) (s : List ℕ) (at : ℕ) {p : Part} → readValue v s at ≡ ok p → length (p .places) ≡ size (p .forest)
+unfolding readValue
+value-sized v s at {p} e =
+    bound (valueAt s at) _ e λ r f g.
+    let t = tested-ok (eqb (r .kind) value·variable && eqb (field r 0) v) 18 at g .1 in
+    let x = ends-ok (rw t at (forest-ends s (field r 1) (r .next) (field r 1) (omega arith))) in
+    omega (arith, x .entries, x .records)
+
+values-sized : (xs : List (ℕ × Var)) (s : List ℕ) (at : ℕ) {vs : List Value} → readValues xs s at ≡ ok vs → length (entryPlaces vs) ≡ size (joined vs)
+unfolding readValues joined concatMap size
+values-sized [] s at {vs} e = let z : [] ≡ vs = let t = tested-ok (leb (length s) at) 18 at e .1 in cc in rw (← z) refl
+values-sized (x ∷ xs) s at {vs} e =
+    bound (readValue (x .0) s at) _ e λ p f g.
+    bound (readValues xs s (p .next)) _ g λ ws h k.
+    let z : record { declared = x; place = at; part = p } ∷ ws ≡ vs = cc in
+    rw (← z) (omega (arith, length-append (p .places) (entryPlaces ws), size-join (p .forest) (joined ws), value-sized (x .0) s at f, values-sized xs s (p .next) h))
+
+pub load-fits : (room : ℕ) (vars : List (ℕ × Var)) (s : List ℕ) {vs : List Value} → loadValues room vars s ≡ ok vs → size (joined vs) ≤ room
+load-fits room vars s e = let r = load-read room vars s e in omega (arith, r .1, values-sized vars s 0 (r .0))
