@@ -1,4 +1,4 @@
--- The lines that the typing program prints, as bytes.
+-- The lines that the programs print, as bytes.
 -- Assumes nothing.
 use Prim.Native.Nat.{ℕ, zero, suc, _/_, _%_}
 use mathlib.Core.Bool.{Bool, true, false}
@@ -34,6 +34,10 @@ result = 114 ∷ 101 ∷ 115 ∷ 117 ∷ 108 ∷ 116 ∷ space ∷ []
 
 unfoldable pub resultLine : ℕ → List ℕ
 resultLine n = result ++ ended n newline
+
+-- "result FIRST LENGTH"
+unfoldable pub stretchLine : ℕ → ℕ → List ℕ
+stretchLine first n = result ++ ended first space ++ ended n newline
 
 -- "refused N at P"
 abbrev pub refused : List ℕ

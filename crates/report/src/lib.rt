@@ -1,4 +1,4 @@
-// What the typing program prints: a line for each entry of a type table, then a line with the result; or a refusal alone.
+// What the programs print: a line for each entry of a type table, or of a stretch of a work table, then a line with the result; or a refusal alone.
 // Lines are gathered on a page, so that a full table takes a few calls. What stands on the page each contract says; what a call writes none can.
 ghost use mathlib.Core.Path.{_≡_};
 ghost use mathlib.Core.List.{_++_};
@@ -7,7 +7,7 @@ ghost use lib.ListN.{length, take, getD};
 ghost use lib.Seq.{paste};
 ghost use Rattle.io.specs.Counts.{Counts};
 ghost use Rattle.meaning.specs.Base.{typeWidth};
-ghost use Rattle.report.specs.Text.{ended, entryLine, resultLine, refusedLine};
+ghost use Rattle.report.specs.Text.{ended, entryLine, resultLine, stretchLine, refusedLine};
 use libc::STDOUT_FILENO;
 
 // A text from a place of a page on.
@@ -48,14 +48,14 @@ fn entry_line(page: &mut [u8], at: usize, e: usize, kind: u16, a: u16, b: u16) -
     number(page, fourth, words::wide(b), b'\n')
 }
 
-// The line of an entry of a type table.
-fn entry(page: &mut [u8], at: usize, types: &[u16], e: usize) -> usize
+// The line of an entry of a table.
+fn entry(page: &mut [u8], at: usize, table: &[u16], e: usize) -> usize
     requires { ⌜ at + 84 ≤ length (now page) ⌝ }
-    requires { ⌜ typeWidth * e + typeWidth ≤ length (now types) ⌝ }
+    requires { ⌜ typeWidth * e + typeWidth ≤ length (now table) ⌝ }
     ensures { λ r. ⌜ r ≤ at + 84 ⌝ }
-    ensures { λ r. ⌜ take r (now (page .exit)) ≡ take at (now (page .entry)) ++ entryLine e (getD (now (types .entry)) (typeWidth * e) 0) (getD (now (types .entry)) (typeWidth * e + 1) 0) (getD (now (types .entry)) (typeWidth * e + 2) 0) ⌝ }
+    ensures { λ r. ⌜ take r (now (page .exit)) ≡ take at (now (page .entry)) ++ entryLine e (getD (now (table .entry)) (typeWidth * e) 0) (getD (now (table .entry)) (typeWidth * e + 1) 0) (getD (now (table .entry)) (typeWidth * e + 2) 0) ⌝ }
 {
-    let x = words::read_entry(types, e);
+    let x = words::read_entry(table, e);
     entry_line(page, at, e, x.kind, x.a, x.b)
 }
 
@@ -72,17 +72,18 @@ fn turn(page: &[u8], at: usize) -> usize
     0
 }
 
-// The lines of the first entries of a type table; where the last page ends.
-fn entries(page: &mut [u8], types: &[u16], count: usize) -> usize
+// The lines of a table's entries from one on and before another; where the last page ends.
+fn entries(page: &mut [u8], table: &[u16], first: usize, end: usize) -> usize
     requires { ⌜ 84 ≤ length (now page) ⌝ }
-    requires { ⌜ typeWidth * count ≤ length (now types) ⌝ }
+    requires { ⌜ first ≤ end ⌝ }
+    requires { ⌜ typeWidth * end ≤ length (now table) ⌝ }
     ensures { λ r. ⌜ Counts r (now (page .exit)) ⌝ }
 {
     let mut at = 0;
-    let mut e = 0;
-    while e < count {
+    let mut e = first;
+    while e < end {
         let next = turn(page, at);
-        at = entry(page, next, types, e);
+        at = entry(page, next, table, e);
         e += 1;
     }
     at
@@ -94,11 +95,18 @@ fn least(a: usize, b: usize) -> usize
     if a < b { a } else { b }
 }
 
-// Prints the first entries of a type table, as many as it has: a line for each.
-pub fn table(types: &[u16], count: usize) {
+// Prints a table's entries from one on, so many, as far as the table has them: a line for each.
+pub fn stretch(table: &[u16], first: usize, count: usize) {
     let mut page = io::buffer();
-    let n = entries(&mut page, types, least(count, types.len() / 3));
+    let most = table.len() / 3;
+    let from = least(first, most);
+    let n = entries(&mut page, table, from, from + least(count, most - from));
     io::write_all(STDOUT_FILENO, &page[..n]);
+}
+
+// Prints the first entries of a type table.
+pub fn table(types: &[u16], count: usize) {
+    stretch(types, 0, count);
 }
 
 // The line of the result.
@@ -109,6 +117,17 @@ fn result_line(page: &mut [u8], n: usize) -> usize
 {
     put(page, 0, b"result ");
     number(page, 7, n, b'\n')
+}
+
+// The line of a result that is a stretch of the work table.
+fn stretch_line(page: &mut [u8], first: usize, n: usize) -> usize
+    requires { ⌜ 64 ≤ length (now page) ⌝ }
+    ensures { λ r. ⌜ Counts r (now (page .exit)) ⌝ }
+    ensures { λ r. ⌜ take r (now (page .exit)) ≡ stretchLine first n ⌝ }
+{
+    put(page, 0, b"result ");
+    let at = number(page, 7, first, b' ');
+    number(page, at, n, b'\n')
 }
 
 // The line of a refusal.
@@ -123,10 +142,17 @@ fn refused_line(page: &mut [u8], refusal: usize, place: usize) -> usize
     number(page, at + 3, place, b'\n')
 }
 
-// Prints the result: the last line of an accepted job.
+// Prints the result: the last line of a typed job.
 pub fn result(n: usize) {
     let mut page = io::buffer();
     let k = result_line(&mut page, n);
+    io::write_all(STDOUT_FILENO, &page[..k]);
+}
+
+// Prints where the result's entries begin and how many they are: the last line of a run.
+pub fn result_at(first: usize, length: usize) {
+    let mut page = io::buffer();
+    let k = stretch_line(&mut page, first, length);
     io::write_all(STDOUT_FILENO, &page[..k]);
 }
 

@@ -10,10 +10,10 @@ use Rattle.report.proofs.entries.Statement.{statement}
 use Rattle.report.proofs.entries.Tie as tie
 
 abbrev Inv-loop : tie.InvT-loop
-Inv-loop page₀ types count at₀ e₀ page at e = (e ≤ count) × (at ≤ length page) × (length page ≡ length page₀)
+Inv-loop page₀ table first end at₀ e₀ page at e = (e ≤ end) × (at ≤ length page) × (length page ≡ length page₀)
 
 abbrev μ-loop : tie.MeasureT-loop
-μ-loop page₀ types count at₀ e₀ page at e = count - e
+μ-loop page₀ table first end at₀ e₀ page at e = end - e
 
 loop-holds : tie.Need-loop-holds Inv-loop μ-loop
 loop-holds c = (omega arith, omega arith, refl)
