@@ -1,9 +1,12 @@
 // Runs vectors through the public operations, each with tables and a buffer of exactly the lengths that it gives, and prints for each its name and what
 // came of it. Typing a job (0): what the typing program prints. Answering a job (1): the answer file's bytes in hex, or the refusal. Reading an answer
-// file (2): the entries as for typing, the definitions, the result, or the refusal.
+// file (2): the entries as for typing, the definitions, the result, or the refusal. Running a job (3): the entries of the work table, where the result
+// begins and its length, or the refusal.
 // Standard input has one vector after the other, in words of two bytes with the low byte first: the length of the name, the operation, the lengths of the
-// type table and of the query table in words, of the answer buffer and of the job or file in bytes; then the name and the job or file.
-// Beside the lines it looks at all that the operation was lent: it is zero after a refusal, and behind the entries or the answer after an acceptance.
+// type table and of the query table in words, of the answer buffer in bytes, of the work table in words, of the job or answer file and of the values file
+// in bytes; then the name, the job or answer file, and the values file.
+// Beside the lines it looks at all that the operation was lent: it is zero after a refusal, and behind the entries or the answer after an acceptance. The
+// type table and the query table of a run are word for word those that typing the job leaves.
 ghost use mathlib.Core.Path.{_≡_};
 ghost use mathlib.Core.Bool.{true};
 ghost use Prim.Native.Nat.{ℕ, _≤_, _<_};
@@ -12,6 +15,7 @@ ghost use Rattle.io.specs.Counts.{Counts};
 use libc::STDIN_FILENO;
 use libc::STDOUT_FILENO;
 use reading::Given;
+use typed::Typed;
 
 // Tables that are not zero: what the operation promises of a table it promises of every word. They are longer than any job can use.
 fn old_types() -> [u16; 12300]
@@ -30,6 +34,12 @@ fn old_answer() -> [u8; 33200]
     ensures { λ r. ⌜ 33200 ≡ length r ⌝ }
 {
     [170; 33200]
+}
+
+fn old_work() -> [u16; 24600]
+    ensures { λ r. ⌜ 24600 ≡ length r ⌝ }
+{
+    [43690; 24600]
 }
 
 // Reads the next n bytes of standard input to the front of a buffer, as many as there are and as it holds; the bytes behind stay.
@@ -229,44 +239,167 @@ fn read_it(file: &[u8], types: &mut [u16]) {
     tell(is_given_clean(given));
 }
 
-// ---- Vectors
+// ---- Running
 
-// The operation of a vector.
-fn outcome(operation: usize, job: &[u8], types: &mut [u16], query: &mut [u16], answer: &mut [u8]) {
-    match operation {
-        0 => type_it(job, types, query),
-        1 => answer_it(job, types, query, answer),
-        _ => read_it(job, types),
+// Whether a table begins with these words.
+fn is_front(front: &[u16], words: &[u16]) -> bool
+    ensures { λ r. ⌜ (r ≡ true → (length (now (front .entry)) ≤ length (now (words .entry))) × ((k : ℕ) → k < length (now (front .entry)) → getD (now (front .entry)) k 0 ≡ getD (now (words .entry)) k 0)) ⌝ }
+{
+    if front.len() > words.len() {
+        return false;
+    }
+    let mut i = 0;
+    while i < front.len() {
+        if front[i] != words[i] {
+            return false;
+        }
+        i += 1;
+    }
+    true
+}
+
+// Whether the same is given.
+fn is_same(given: Given, other: Given) -> bool {
+    let defs = given.defs;
+    let vars = given.vars;
+    let other_defs = other.defs;
+    let other_vars = other.vars;
+    if given.used != other.used {
+        return false;
+    }
+    if given.declared != other.declared {
+        return false;
+    }
+    if is_front(&defs, &other_defs) {
+        return is_front(&vars, &other_vars);
+    }
+    false
+}
+
+// Whether typing came to these numbers.
+fn is_typed(answer: typed::Answer, result: usize, count: usize, nodes: usize) -> bool {
+    match answer {
+        typed::Answer::Accepted {
+            result: r,
+            types: c,
+            nodes: n,
+        } => r == result && c == count && n == nodes,
+        typed::Answer::Refused {
+            number: _,
+            place: _,
+        } => false,
     }
 }
 
-// The same with the front of each table and of the buffer. Of a vector with longer ones nothing is printed, so that its lines are missed.
-fn within(
-    operation: usize,
+// Types a job in the front of each table, so many words.
+fn type_within(job: &[u8], types: &mut [u16], a: usize, query: &mut [u16], b: usize) -> Typed
+    requires { ⌜ a ≤ length (now types) ⌝ ∗ ⌜ b ≤ length (now query) ⌝ }
+{
+    emberstitch::type_job(job, &mut types[..a], &mut query[..b])
+}
+
+// Whether typing the job by itself gives and leaves the same.
+fn is_as_typed(
     job: &[u8],
-    types: &mut [u16],
-    a: usize,
-    query: &mut [u16],
-    b: usize,
-    answer: &mut [u8],
-    c: usize,
-) {
-    if a > types.len() {
-        return;
+    types: &[u16],
+    query: &[u16],
+    given: Given,
+    result: usize,
+    count: usize,
+    nodes: usize,
+) -> bool {
+    let mut other_types = old_types();
+    let mut other_query = old_query();
+    if types.len() > other_types.len() {
+        return false;
     }
-    if b > query.len() {
-        return;
+    if query.len() > other_query.len() {
+        return false;
     }
-    if c > answer.len() {
-        return;
-    }
-    outcome(
-        operation,
+    let typed = type_within(
         job,
-        &mut types[..a],
-        &mut query[..b],
-        &mut answer[..c],
+        &mut other_types,
+        types.len(),
+        &mut other_query,
+        query.len(),
     );
+    let answer = typed.answer;
+    if is_typed(answer, result, count, nodes) {
+        if is_same(given, typed.given) {
+            if is_front(types, &other_types) {
+                return is_front(query, &other_query);
+            }
+        }
+    }
+    false
+}
+
+// The entries of a work table, the values and the result; where the result begins, and how many entries it has. Of more than a table can have nothing is
+// printed, so that the lines are missed.
+fn print_run(work: &[u16], first: usize, length: usize) {
+    if first > 8192 {
+        return;
+    }
+    if length > 8192 {
+        return;
+    }
+    let end = first + length;
+    report::table(work, end);
+    io::write_all(STDOUT_FILENO, b"first ");
+    io::print_decimal(STDOUT_FILENO, first as u64);
+    io::write_all(STDOUT_FILENO, b" length ");
+    io::print_decimal(STDOUT_FILENO, length as u64);
+    io::write_all(STDOUT_FILENO, b"\n");
+    tell(is_clean(work, 3 * end));
+}
+
+// The operation on a job and values, and what is printed of it.
+fn run_it(job: &[u8], values: &[u8], types: &mut [u16], query: &mut [u16], work: &mut [u16]) {
+    let told = emberstitch::run_job(job, values, types, query, work);
+    let answer = told.answer;
+    let given = told.given;
+    match answer {
+        ran::Answer::Accepted {
+            first,
+            length,
+            result,
+            types: count,
+            nodes,
+        } => {
+            print_run(work, first, length);
+            tell(is_as_typed(job, types, query, given, result, count, nodes));
+        }
+        ran::Answer::Refused { number, place } => {
+            refused(types, query, number, place);
+            tell(is_clean(work, 0));
+            tell(is_given_clean(given));
+        }
+    }
+}
+
+// ---- Vectors
+
+// Answering with the front of a buffer. Of a vector with a longer one nothing is printed, so that its lines are missed; so with longer tables below.
+fn answer_within(job: &[u8], types: &mut [u16], query: &mut [u16], answer: &mut [u8], n: usize) {
+    if n > answer.len() {
+        return;
+    }
+    answer_it(job, types, query, &mut answer[..n]);
+}
+
+// Running with the front of a work table.
+fn run_within(
+    job: &[u8],
+    values: &[u8],
+    types: &mut [u16],
+    query: &mut [u16],
+    work: &mut [u16],
+    n: usize,
+) {
+    if n > work.len() {
+        return;
+    }
+    run_it(job, values, types, query, &mut work[..n]);
 }
 
 // What stands before the name of a vector.
@@ -276,24 +409,60 @@ struct Head {
     types: usize,
     query: usize,
     answer: usize,
+    work: usize,
     job: usize,
+    values: usize,
 }
 
-fn head_of(bytes: &[u8; 12]) -> Head {
+fn head_of(bytes: &[u8; 16]) -> Head {
     let name = words::wide(words::word(bytes, 0));
     let operation = words::wide(words::word(bytes, 2));
     let types = words::wide(words::word(bytes, 4));
     let query = words::wide(words::word(bytes, 6));
     let answer = words::wide(words::word(bytes, 8));
-    let job = words::wide(words::word(bytes, 10));
+    let work = words::wide(words::word(bytes, 10));
+    let job = words::wide(words::word(bytes, 12));
+    let values = words::wide(words::word(bytes, 14));
     Head {
         name,
         operation,
         types,
         query,
         answer,
+        work,
         job,
+        values,
     }
+}
+
+// The operation of a vector.
+fn outcome(head: Head, job: &[u8], values: &[u8], types: &mut [u16], query: &mut [u16]) {
+    let operation = head.operation;
+    match operation {
+        0 => type_it(job, types, query),
+        1 => {
+            let mut answer = old_answer();
+            answer_within(job, types, query, &mut answer, head.answer);
+        }
+        2 => read_it(job, types),
+        _ => {
+            let mut work = old_work();
+            run_within(job, values, types, query, &mut work, head.work);
+        }
+    }
+}
+
+// The same with the front of the type table and of the query table.
+fn within(head: Head, job: &[u8], values: &[u8], types: &mut [u16], query: &mut [u16]) {
+    let a = head.types;
+    let b = head.query;
+    if a > types.len() {
+        return;
+    }
+    if b > query.len() {
+        return;
+    }
+    outcome(head, job, values, &mut types[..a], &mut query[..b]);
 }
 
 // Prints the name that comes next; whether it was there.
@@ -305,34 +474,29 @@ fn title(n: usize) -> bool {
     got == n
 }
 
-// Runs the job that comes next; whether it was there.
+// Runs the job that comes next, on the values that come then; whether they were there.
 fn run(head: Head) -> bool {
-    let mut bytes = io::large_buffer();
-    let got = read_next(&mut bytes, head.job);
+    let mut job = io::large_buffer();
+    let got = read_next(&mut job, head.job);
     if got < head.job {
+        return false;
+    }
+    let mut values = io::large_buffer();
+    let more = read_next(&mut values, head.values);
+    if more < head.values {
         return false;
     }
     let mut types = old_types();
     let mut query = old_query();
-    let mut answer = old_answer();
-    within(
-        head.operation,
-        &bytes[..got],
-        &mut types,
-        head.types,
-        &mut query,
-        head.query,
-        &mut answer,
-        head.answer,
-    );
+    within(head, &job[..got], &values[..more], &mut types, &mut query);
     true
 }
 
 // Reads and runs the next vector; whether there was one.
 fn vector() -> bool {
-    let mut bytes = [0u8; 12];
+    let mut bytes = [0u8; 16];
     let got = io::read_full(STDIN_FILENO, &mut bytes);
-    if got < 12 {
+    if got < 16 {
         return false;
     }
     let head = head_of(&bytes);

@@ -1,4 +1,4 @@
--- `worked::within` is safe: the front of a table has as many words as were asked, since no more than it has were; and so has the front of the buffer.
+-- `worked::within` is safe: the front of a table has as many words as were asked, since no more than it has were.
 -- Assumes nothing.
 use native.Mathlib.Omega.{arith}
 use borrow.Author.Needs.{needs}
@@ -12,26 +12,17 @@ returns c = search needs
 returns-2 : tie.Need-returns-2
 returns-2 c = search needs
 
-returns-3 : tie.Need-returns-3
-returns-3 c = search needs
-
 slice-relend-prefix-outcome : tie.Need-slice-relend-prefix-outcome
 slice-relend-prefix-outcome c = search needs
 
 slice-aggregate-outcome : tie.Need-slice-aggregate-outcome
-slice-aggregate-outcome c = let start = c .before .before .before .before .before .before .before .before in front (start .args .a) (start .args .types .now) (omega arith)
+slice-aggregate-outcome c = let start = c .before .before .before .before .before .before .before in front (start .args .head .types) (start .args .types .now) (omega arith)
 
 slice-relend-prefix-outcome-2 : tie.Need-slice-relend-prefix-outcome-2
 slice-relend-prefix-outcome-2 c = search needs
 
 slice-aggregate-outcome-2 : tie.Need-slice-aggregate-outcome-2
-slice-aggregate-outcome-2 c = let start = c .before .before .before .before .before .before .before .before .before in front (start .args .b) (start .args .query .now) (omega arith)
-
-slice-relend-prefix-outcome-3 : tie.Need-slice-relend-prefix-outcome-3
-slice-relend-prefix-outcome-3 c = search needs
-
-slice-aggregate-outcome-3 : tie.Need-slice-aggregate-outcome-3
-slice-aggregate-outcome-3 c = let start = c .before .before .before .before .before .before .before .before .before .before in front (start .args .c) (start .args .answer .now) (omega arith)
+slice-aggregate-outcome-2 c = let start = c .before .before .before .before .before .before .before .before in front (start .args .head .query) (start .args .query .now) (omega arith)
 
 outcome-requires : tie.Need-outcome-requires
 outcome-requires c κs = search needs
@@ -42,11 +33,8 @@ same-length c = search needs
 same-length-2 : tie.Need-same-length-2
 same-length-2 c = search needs
 
-same-length-3 : tie.Need-same-length-3
-same-length-3 c = search needs
-
-returns-4 : tie.Need-returns-4
-returns-4 c = search needs
+returns-3 : tie.Need-returns-3
+returns-3 c = search needs
 
 pub within-spec : {M : Type 1} → statement M
 within-spec =
@@ -54,15 +42,11 @@ within-spec =
     (tie.spec
     returns
     returns-2
-    returns-3
     slice-relend-prefix-outcome
     slice-aggregate-outcome
     slice-relend-prefix-outcome-2
     slice-aggregate-outcome-2
-    slice-relend-prefix-outcome-3
-    slice-aggregate-outcome-3
     outcome-requires
     same-length
     same-length-2
-    same-length-3
-    returns-4)
+    returns-3)
