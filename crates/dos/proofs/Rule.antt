@@ -3,7 +3,7 @@
 use mathlib.Core.Path.{_≡_}
 use mathlib.Core.Bool.{Bool}
 use mathlib.Core.List.{List, _∷_}
-use Prim.Native.Nat.{ℕ, _+_, _-_, _≤_, _<_}
+use Prim.Native.Nat.{ℕ, _+_, _*_, _-_, _≤_, _<_}
 use native.Mathlib.Omega.{arith}
 use lib.ListN.{length, take}
 use Rattle.meaning.specs.Base.{Out, keptFrom, typeCapacity}
@@ -60,5 +60,5 @@ module _ {D : Defs} {ws cs : List ℕ} {count : ℕ} (R : Ready D ws cs count) w
   pub dos-ready : {defs : List ℕ} (used : ℕ) → used ≤ length defs → D ≡ take used defs → (E : Defs) × Ready E ws cs count × Given ws count defs E
   dos-ready used l p = (D, R, given-ready used l p)
 
-  pub marks-ready : (ms : List ℕ) → 4096 ≤ length ms → count ≤ length ms
+  pub marks-ready : (ms : List ℕ) → 8192 ≤ length ms → 2 * count ≤ length ms
   marks-ready ms h = omega (arith, R .lent .fits)

@@ -1,7 +1,7 @@
 // The typing rule of dos: the star of the union of the atoms that an entry reaches and that pass a test.
 ghost use mathlib.Core.Path.{_≡_};
 ghost use mathlib.Core.List.{_∷_};
-ghost use Prim.Native.Nat.{_+_, _-_, _≤_, _<_};
+ghost use Prim.Native.Nat.{_+_, _*_, _-_, _≤_, _<_};
 ghost use lib.ListN.{length};
 ghost use Rattle.meaning.specs.Base.{typeCapacity, keptFrom};
 ghost use Rattle.meaning.specs.Types.{Defs};
@@ -75,7 +75,7 @@ pub fn dos_rule(
     e: usize,
     marks: &mut [u16],
 ) -> Made
-    requires { ⌜ ((D : Defs) × Ready D (now types) (now classes) count × Given (now types) count (now defs) D) ⌝ ∗ ⌜ e < count ⌝ ∗ ⌜ count ≤ length (now marks) ⌝ }
+    requires { ⌜ ((D : Defs) × Ready D (now types) (now classes) count × Given (now types) count (now defs) D) ⌝ ∗ ⌜ e < count ⌝ ∗ ⌜ 2 * count ≤ length (now marks) ⌝ }
     ensures { λ r. ⌜ ((D : Defs) → Ready D (now (types .entry)) (now (classes .entry)) count → Given (now (types .entry)) count (now (defs .entry)) D → Left D (now (types .entry)) (now (types .exit)) (now (classes .entry)) (now (classes .exit)) r (dosRule (typeCapacity (length (now (types .entry)))) node D test e (tableOf (now (types .entry)) count))) ⌝ }
 {
     reach::reach(types, count, defs, e, marks);

@@ -103,7 +103,7 @@ pub fn dos(
     scope: Scope,
     marks: &mut [u16],
 ) -> Walked
-    requires { ⌜ Begins (take used (now defs)) (now types) (now classes) count scope ⌝ ∗ ⌜ v ≤ 63 ⌝ ∗ ⌜ used ≤ length (now defs) ⌝ ∗ ⌜ 4096 ≤ length (now marks) ⌝ }
+    requires { ⌜ Begins (take used (now defs)) (now types) (now classes) count scope ⌝ ∗ ⌜ v ≤ 63 ⌝ ∗ ⌜ used ≤ length (now defs) ⌝ ∗ ⌜ 8192 ≤ length (now marks) ⌝ }
     ensures { λ r. ⌜ Walks (take used (now (defs .entry))) (now (types .entry)) (now (types .exit)) (now (classes .entry)) (now (classes .exit)) count (Queries.dos n v test) scope r ⌝ }
 {
     let looked = conds::tree_type(scope, n, v);

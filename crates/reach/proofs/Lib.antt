@@ -1,6 +1,6 @@
--- Laws of marks in words, of sweeps over them, and of the atoms picked by them. Read in this order.
+-- Laws of marks in words, of what is still to be visited, and of the atoms picked by them. Read in this order.
 pub mod Marks
+pub mod Pushing
 pub mod Steps
-pub mod Sweeps
 pub mod Reaching
 pub mod Atoms

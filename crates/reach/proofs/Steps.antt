@@ -134,7 +134,7 @@ module _ {types : List ℕ} {count : ℕ} {defs : List ℕ} {D : Defs} (g : Give
   taken-at : (d : ℕ) → d < length D → getD D d 0 ≡ getD defs d 0
   taken-at d l = ap (λ (E : Defs). getD E d 0) (g .taken) ∙ getD-take (length D) defs d 0 l
 
-  entry-within : (e : ℕ) → e < count → Within count D (at (tableOf types count) e)
+  pub entry-within : (e : ℕ) → e < count → Within count D (at (tableOf types count) e)
   entry-within e l = rw (table-length types count) at (formed-within (g .formed) e (rw (table-length types count) l))
 
   pub given-alike : (e : ℕ) → e < count → stepsOf true defs (at (tableOf types count) e) ≡ stepsOf true D (at (tableOf types count) e)

@@ -1,15 +1,16 @@
 -- Marks of entries in a lent table, a word for each entry, as `meaning` has them; what is given to mark them; what each function leaves.
 -- Assumes nothing.
 use mathlib.Core.Path.{_≡_}
-use mathlib.Core.Bool.{Bool, true, false, not}
+use mathlib.Core.Bool.{Bool, true, false, not, cond}
 use mathlib.Core.List.{List, [], _∷_}
 use mathlib.Core.Option.{some}
-use Prim.Native.Nat.{ℕ, zero, suc, _*_, _≤_, _<_}
+use mathlib.Core.Logic.{_⊎_}
+use Prim.Native.Nat.{ℕ, zero, suc, _+_, _*_, _≤_, _<_}
 use lib.Dec.{eqb}
-use lib.ListN.{length, take}
+use lib.ListN.{length, getD, take}
 use Rattle.meaning.specs.Base.{In, typeWidth}
 use Rattle.meaning.specs.Types.{Entry, Defs, nameOf}
-use Rattle.meaning.specs.Reach.{stepsOf, mark, sweep, reached}
+use Rattle.meaning.specs.Reach.{stepsOf, reached}
 use Rattle.meaning.specs.Formed.{Formed}
 use Rattle.words.specs.Tables.{entryAt, tableOf}
 
@@ -36,15 +37,36 @@ pub record Given (types : List ℕ) (count : ℕ) (defs : List ℕ) (D : Defs) :
   pub listed : length D ≤ length defs
   pub taken : D ≡ take (length D) defs
 
--- WHAT IS LEFT. The entries of a list are marked; if no mark is new, nothing has changed.
-pub record Marked (before after : List ℕ) (xs : List ℕ) (new : Bool) : Type 0 where
-  pub marks : (n : ℕ) → marksOf n after ≡ mark (marksOf n before) xs
-  pub same : new ≡ false → after ≡ before
+-- how many of the first n entries have no mark
+unfoldable pub blank : ℕ → List ℕ → ℕ
+blank zero ms = 0
+blank (suc n) ms = cond (eqb (getD ms n 0) 0) 1 0 + blank n ms
 
--- a sweep that had come down to one entry has come down to another: sweeping on gives the same
-pub record Swept (types : List ℕ) (count : ℕ) (D : Defs) (from to : ℕ) (before after : List ℕ) (new : Bool) : Type 0 where
-  pub marks : sweep to true D (tableOf types count) (marksOf count after) ≡ sweep from true D (tableOf types count) (marksOf count before)
-  pub same : new ≡ false → after ≡ before
+-- an entry has a mark; it is one of those to visit, so many words behind the marks
+abbrev pub Seen : List ℕ → ℕ → Type 0
+Seen ms i = getD ms i 0 ≡ 0 → ⊥
+
+pub record Listed (count : ℕ) (ms : List ℕ) (left i : ℕ) : Type 0 where
+  pub place : ℕ
+  pub low : place < left
+  pub is : getD ms (count + place) 0 ≡ i
+
+-- there is room for as many entries to visit as have no mark
+pub record Room (ms : List ℕ) (count left : ℕ) : Type 0 where
+  pub most : count ≤ 4096
+  pub long : 2 * count ≤ length ms
+  pub few : left + blank count ms ≤ count
+
+-- WHAT IS LEFT. The entries of a list are marked, and those that had no mark are to be visited.
+pub record Grew (count : ℕ) (before after : List ℕ) (left r : ℕ) (xs : List ℕ) : Type 0 where
+  pub long : length after ≡ length before
+  pub room : r + blank count after ≡ left + blank count before
+  pub more : left ≤ r
+  pub kept : (i : ℕ) → i < count → Seen before i → Seen after i
+  pub new : (i : ℕ) → i < count → Seen after i → Seen before i ⊎ (In i xs × Listed count after r i)
+  pub same : (j : ℕ) → j < left → getD after (count + j) 0 ≡ getD before (count + j) 0
+  pub added : (j : ℕ) → left ≤ j → j < r → In (getD after (count + j) 0) xs
+  pub done : (x : ℕ) → In x xs → Seen after x
 
 -- what entry e reaches is marked
 pub record Reached (types : List ℕ) (count : ℕ) (defs : List ℕ) (e : ℕ) (after : List ℕ) : Type 0 where

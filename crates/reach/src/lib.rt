@@ -2,97 +2,75 @@
 ghost use mathlib.Core.Path.{_≡_};
 ghost use mathlib.Core.Bool.{true};
 ghost use mathlib.Core.List.{[], _∷_};
-ghost use Prim.Native.Nat.{ℕ, suc, _+_, _*_, _≤_, _<_};
+ghost use Prim.Native.Nat.{ℕ, _+_, _*_, _≤_, _<_};
 ghost use lib.ListN.{length};
 ghost use Rattle.meaning.specs.Base.{typeWidth};
 ghost use Rattle.meaning.specs.Types.{Defs, entryOf, headOf};
 ghost use Rattle.meaning.specs.Reach.{stepsOf, atomPasses};
-ghost use Rattle.words.specs.Tables.{entryAt, tableOf};
-ghost use Rattle.reach.specs.Marks.{marksOf, Within, Inside, Given, Marked, Swept, Reached};
+ghost use Rattle.words.specs.Tables.{tableOf};
+ghost use Rattle.reach.specs.Marks.{marksOf, Within, Given, Room, Grew, Reached};
 ghost use Rattle.reach.specs.Atoms.{picked, Next};
 use words::Head;
 
-// Marks an entry; says whether the mark is new.
-fn mark(marks: &mut [u16], e: usize) -> bool
-    requires { ⌜ e < length (now marks) ⌝ }
-    ensures { λ r. ⌜ Marked (now (marks .entry)) (now (marks .exit)) (e ∷ []) r ⌝ }
+// Marks an entry and puts it behind those that are to be visited, if it has no mark yet; how many are to be visited then. They stand behind the first
+// `count` marks.
+fn push(marks: &mut [u16], count: usize, left: usize, e: usize) -> usize
+    requires { ⌜ e < count ⌝ ∗ ⌜ Room (now marks) count left ⌝ }
+    ensures { λ r. ⌜ Grew count (now (marks .entry)) (now (marks .exit)) left r (e ∷ []) ⌝ }
 {
     if marks[e] != 0 {
-        return false;
+        return left;
     }
     marks[e] = 1;
-    true
+    let last = count + left;
+    marks[last] = e as u16;
+    left + 1
 }
 
-// Marks two entries; says whether a mark is new.
-fn mark_two(marks: &mut [u16], a: usize, b: usize) -> bool
-    requires { ⌜ a < length (now marks) ⌝ ∗ ⌜ b < length (now marks) ⌝ }
-    ensures { λ r. ⌜ Marked (now (marks .entry)) (now (marks .exit)) (a ∷ b ∷ []) r ⌝ }
+// The same for two.
+fn push_two(marks: &mut [u16], count: usize, left: usize, a: usize, b: usize) -> usize
+    requires { ⌜ a < count ⌝ ∗ ⌜ b < count ⌝ ∗ ⌜ Room (now marks) count left ⌝ }
+    ensures { λ r. ⌜ Grew count (now (marks .entry)) (now (marks .exit)) left r (a ∷ b ∷ []) ⌝ }
 {
-    let new = mark(marks, a);
-    if mark(marks, b) {
-        return true;
-    }
-    new
+    let more = push(marks, count, left, a);
+    push(marks, count, more, b)
 }
 
-// Marks what stands directly in an entry: an element's child; both children of a pair or union; the child of star, plus and opt; a name's definition.
-fn visit(kind: u16, a: u16, b: u16, defs: &[u16], marks: &mut [u16]) -> bool
-    requires { ⌜ Within (length (now marks)) (now defs) (entryOf kind a b) ⌝ }
-    ensures { λ r. ⌜ Marked (now (marks .entry)) (now (marks .exit)) (stepsOf true (now (defs .entry)) (entryOf kind a b)) r ⌝ }
+// The same for what stands directly in an entry: an element's child; both children of a pair or union; the child of star, plus and opt; a name's
+// definition.
+fn visit(
+    kind: u16,
+    a: u16,
+    b: u16,
+    defs: &[u16],
+    marks: &mut [u16],
+    count: usize,
+    left: usize,
+) -> usize
+    requires { ⌜ Within count (now defs) (entryOf kind a b) ⌝ ∗ ⌜ Room (now marks) count left ⌝ }
+    ensures { λ r. ⌜ Grew count (now (marks .entry)) (now (marks .exit)) left r (stepsOf true (now (defs .entry)) (entryOf kind a b)) ⌝ }
 {
     match kind {
-        3 => mark(marks, b as usize),
-        4 | 5 => mark_two(marks, a as usize, b as usize),
-        6 | 7 | 8 => mark(marks, a as usize),
-        9 => mark(marks, words::wide(defs[a as usize])),
-        _ => false,
+        3 => push(marks, count, left, b as usize),
+        4 | 5 => push_two(marks, count, left, a as usize, b as usize),
+        6 | 7 | 8 => push(marks, count, left, a as usize),
+        9 => push(marks, count, left, words::wide(defs[a as usize])),
+        _ => left,
     }
 }
 
-// Visits entry e if it is marked; says whether a mark is new.
-fn step(types: &[u16], defs: &[u16], marks: &mut [u16], e: usize) -> bool
-    requires { ⌜ typeWidth * e + typeWidth ≤ length (now types) ⌝ ∗ ⌜ e < length (now marks) ⌝ ∗ ⌜ Within (length (now marks)) (now defs) (entryAt (now types) e) ⌝ }
-    ensures { λ r. ⌜ ((count : ℕ) → e < count → Swept (now (types .entry)) count (now (defs .entry)) (suc e) e (now (marks .entry)) (now (marks .exit)) r) ⌝ }
-{
-    if marks[e] == 0 {
-        return false;
-    }
-    let x = words::read_entry(types, e);
-    visit(x.kind, x.a, x.b, defs, marks)
-}
-
-// One sweep, from the last entry down to the first; says whether a mark is new.
-fn sweep(types: &[u16], count: usize, defs: &[u16], marks: &mut [u16]) -> bool
-    requires { ⌜ Inside (now types) count (now defs) ⌝ ∗ ⌜ count ≤ length (now marks) ⌝ }
-    ensures { λ r. ⌜ Swept (now (types .entry)) count (now (defs .entry)) count 0 (now (marks .entry)) (now (marks .exit)) r ⌝ }
-{
-    let mut new = false;
-    let mut e = count;
-    while 0 < e {
-        e -= 1;
-        if step(types, defs, marks, e) {
-            new = true;
-        }
-    }
-    new
-}
-
-// Marks what entry e reaches, itself too, and nothing else among the first `count`. All that stands in an entry is lower, except a name's definition,
-// so a sweep settles everything but the steps from a name up to its definition: there is at most one sweep more than there are definitions on the way,
-// and then one that finds nothing new.
+// Marks what entry e reaches, itself too, and nothing else among the first `count`. Each entry that is marked is visited once.
 pub fn reach(types: &[u16], count: usize, defs: &[u16], e: usize, marks: &mut [u16])
-    requires { ⌜ ((D : Defs) × Given (now types) count (now defs) D) ⌝ ∗ ⌜ e < count ⌝ ∗ ⌜ count ≤ length (now marks) ⌝ }
+    requires { ⌜ ((D : Defs) × Given (now types) count (now defs) D) ⌝ ∗ ⌜ e < count ⌝ ∗ ⌜ 2 * count ≤ length (now marks) ⌝ }
     ensures { λ _. ⌜ Reached (now (types .entry)) count (now (defs .entry)) e (now (marks .exit)) ⌝ }
 {
     words::clear(&mut marks[..count]);
-    marks[e] = 1; // itself
-    let mut left = count;
+    let mut left = push(marks, count, 0, e); // itself
     while 0 < left {
-        if !sweep(types, count, defs, marks) {
-            return;
-        }
-        left -= 1;
+        let next = left - 1;
+        let at = words::wide(marks[count + next]);
+        let x = words::read_entry(types, at);
+        left = visit(x.kind, x.a, x.b, defs, marks, count, next);
     }
 }
 

@@ -79,7 +79,7 @@ module _ {types query : List ℕ} {count nodes : ℕ} {g : Given} (h : Ready typ
     within : length (s .slots) ≡ 64 → Within s count
     within wide = record { wide = wide; low = λ v x l e. let d = find-at v declared x (sym (shows v l) ∙ e) in h .vars-read .scoped (d .0) v x (d .1) }
 
-    pub walk-ready : {classes marks : List ℕ} → length (s .slots) ≡ 64 → Filled D (tableOf types count) classes → 4096 ≤ length classes → 4096 ≤ length marks
+    pub walk-ready : {classes marks : List ℕ} → length (s .slots) ≡ 64 → Filled D (tableOf types count) classes → 4096 ≤ length classes → 8192 ≤ length marks
         → Here types classes marks (g .defs) (g .used) query nodes count (nodes - 1) s
     walk-ready wide filled long marked =
         record {

@@ -68,7 +68,7 @@ fn type_with(
     marks: &mut [u16],
     stack: &mut [u16],
 ) -> Made
-    requires { ⌜ Ready (now types) (now query) count nodes given ⌝ ∗ ⌜ 4096 ≤ length (now classes) ⌝ ∗ ⌜ 4096 ≤ length (now marks) ⌝ ∗ ⌜ 2048 ≤ length (now stack) ⌝ }
+    requires { ⌜ Ready (now types) (now query) count nodes given ⌝ ∗ ⌜ 4096 ≤ length (now classes) ⌝ ∗ ⌜ 8192 ≤ length (now marks) ⌝ ∗ ⌜ 2048 ≤ length (now stack) ⌝ }
     ensures { λ r. ⌜ Grows (now (types .entry)) (now (types .exit)) r (fromRoot (now (types .entry)) (now (query .entry)) count nodes given) ⌝ }
 {
     let defs = given.defs;
@@ -103,7 +103,7 @@ fn type_tables(
     ensures { λ r. ⌜ Answers (now (types .entry)) (now (query .entry)) count nodes given r (now (types .exit)) (now (query .exit)) ⌝ }
 {
     let mut classes = [0u16; 4096];
-    let mut marks = [0u16; 4096];
+    let mut marks = [0u16; 8192];
     let mut stack = [0u16; 2048];
     let made = type_with(
         types,

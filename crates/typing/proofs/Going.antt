@@ -156,7 +156,7 @@ module _ (walk : Walk) where
 
     -- A STEP DOWN
     module _ {us ds ms st : List ℕ} {s : Scope} {node n top : ℕ} (d : Descends us ds ms st s node n top) where
-      pub down-here : 4096 ≤ walk .marked → walk .used ≤ length (walk .defs) → Here us ds ms (walk .defs) (walk .used) (walk .code) (walk .nodes) n node s
+      pub down-here : 8192 ≤ walk .marked → walk .used ≤ length (walk .defs) → Here us ds ms (walk .defs) (walk .used) (walk .code) (walk .nodes) n node s
       down-here m l = record { begins = d .begins; marked = omega (arith, d .held .marked); listed = l; coded = coded; low = omega (arith, d .low) }
 
       pub down-room : 2048 ≤ walk .deep → 2 * top + 1 < length st
@@ -238,7 +238,7 @@ module _ (walk : Walk) where
       pub up-room : 2048 ≤ walk .deep → 2 * i + 1 < length st
       up-room l = omega (arith, a .held .deep, top .sound .low, coded .few)
 
-      pub up-back : 4096 ≤ walk .marked → walk .used ≤ length (walk .defs) → 2048 ≤ walk .deep → Back us ds ms (walk .defs) (walk .used) (walk .code) (walk .nodes) n s st i e
+      pub up-back : 8192 ≤ walk .marked → walk .used ≤ length (walk .defs) → 2048 ≤ walk .deep → Back us ds ms (walk .defs) (walk .used) (walk .code) (walk .nodes) n s st i e
       up-back m l d =
           record {
             here = record { begins = a .begins; marked = omega (arith, a .held .marked); listed = l; coded = coded; low = omega (arith, top .sound .low, top .sound .node) };

@@ -144,7 +144,7 @@ begun st top n = set (set st (2 * top) n) (2 * top + 1) 0
 -- what the walk of node n is given: types, classes and a scope to begin with; marks, definitions and the query's nodes
 pub record Here (types classes marks defs : List ℕ) (used : ℕ) (code : List ℕ) (nodes count n : ℕ) (s : Scope) : Type 0 where
   pub begins : Begins (take used defs) types classes count s
-  pub marked : 4096 ≤ length marks
+  pub marked : 8192 ≤ length marks
   pub listed : used ≤ length defs
   pub coded : Coded code nodes
   pub low : n < nodes

@@ -59,7 +59,7 @@ enum-known-query-4 c = search needs
 child-requires : tie.Need-child-requires
 child-requires c κs =
     let h = (c .before .before .before .before .before .before .before .before .before .before .before .before .before) .pre .0 in
-    (h .begins, (child-low _ _ (h .coded) (h .low) ((c .before .before .before .before .before .before) .read-query .ensures) ((c .before .before .before .before) .query4 .given .1), h .marked))
+    (h .begins, (child-low _ _ (h .coded) (h .low) ((c .before .before .before .before .before .before) .read-query .ensures) ((c .before .before .before .before) .query4 .given .1), omega (arith, h .marked)))
 
 rise-requires-4 : tie.Need-rise-requires-4
 rise-requires-4 c κs = search needs

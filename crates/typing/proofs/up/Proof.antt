@@ -56,7 +56,7 @@ each-requires : tie.Need-each-requires
 each-requires c κs =
     let b = (c .before .before .before .before .before .before .before .before .before .before .before .before .before .before .before .before .before) .pre in
     let h = back-here b ((c .before .before .before .before .before .before .before .before .before) .wide .ensures) in
-    (b .here .begins, (b .here .marked, (for-low _ _ (h .coded) (h .low) ((c .before .before .before .before .before .before .before) .read-query .ensures) ((c .before .before .before .before .before) .query3 .given .1) .0, (b .low, b .room))))
+    (b .here .begins, (omega (arith, b .here .marked), (for-low _ _ (h .coded) (h .low) ((c .before .before .before .before .before .before .before) .read-query .ensures) ((c .before .before .before .before .before) .query3 .given .1) .0, (b .low, b .room))))
 
 enum-known-query-4 : tie.Need-enum-known-query-4
 enum-known-query-4 c = search needs
