@@ -24,7 +24,6 @@ use Rattle.copies.specs.declared.Made.the-variants as Made
 use Rattle.copies.specs.Fills.{Filled}
 use Rattle.copies.proofs.Lent.{zeros-append}
 use Rattle.copies.proofs.Filling.{filled-words}
-use Rattle.picks.specs.declared.Step.{Step}
 use Rattle.values.specs.Says.{endsOf}
 use Rattle.values.proofs.Scanning.{ends-length}
 use Rattle.running.specs.Evaluates as Evaluates
@@ -100,14 +99,14 @@ module _ {vars : List (ℕ × Var)} {ends : List ℕ} {count : ℕ} {work : List
     left-whole (Evaluates.done x) = Says.done (x .count) (laid-whole x)
     left-whole Evaluates.full = Says.full
 
-    evaluated : (held : List ℕ) {after : List ℕ} {scope : Spans} {us : List ℕ} {r : Step} (spread : Spread vars ends scope) (e : after ≡ stored held 0 (take (3 * count) work)) (long : length after ≡ 24576) (query : List ℕ) (nodes : ℕ) {last : List ℕ}
-        → Evaluates.Evaluates scope after last (length rest) us count r (Evaluates.valued (queryAt (codeOf query nodes) (nodes - 1)))
-        → Evaluated (length work) (take (3 * count) work ++ (us ++ drop (3 * room - 3 * count) (drop (3 * count) work))) (joined vs) (r .made) (eval (workCapacity (length work)) (queryAt (codeOf query nodes) (nodes - 1)) (envOf vs) count)
+    evaluated : (held : List ℕ) {after : List ℕ} {scope : Spans} {us : List ℕ} {made : Made} (spread : Spread vars ends scope) (e : after ≡ stored held 0 (take (3 * count) work)) (long : length after ≡ 24576) (query : List ℕ) (nodes : ℕ)
+        → Evaluates.Evaluated scope after (length rest) us count made (queryAt (codeOf query nodes) (nodes - 1))
+        → Evaluated (length work) (take (3 * count) work ++ (us ++ drop (3 * room - 3 * count) (drop (3 * count) work))) (joined vs) made (eval (workCapacity (length work)) (queryAt (codeOf query nodes) (nodes - 1)) (envOf vs) count)
     unfolding begins
-    evaluated held {us = us} {r} spread e long query nodes x =
+    evaluated held {us = us} {made} spread e long query nodes x =
         let top : count + length rest / 3 ≡ workCapacity (length work) = omega (arith, rest-length, within .0, q) in
         let b = begins held spread e long in
-        left-whole (subst (λ (t : ℕ). Evaluates.Left (length rest) us (r .made) (eval t (queryAt (codeOf query nodes) (nodes - 1)) (envOf vs) count)) top (x .is (envOf vs) (b .shows)))
+        left-whole (subst (λ (t : ℕ). Evaluates.Left (length rest) us made (eval t (queryAt (codeOf query nodes) (nodes - 1)) (envOf vs) count)) top (x .is (envOf vs) (b .shows)))
 
 -- THE EVALUATION behind values that were loaded
 module _ {query : List ℕ} {nodes : ℕ} {g : Given} {ends work : List ℕ} {count : ℕ} (ready : Ready query nodes g) (b : Begins g ends work count) where
@@ -121,7 +120,7 @@ module _ {query : List ℕ} {nodes : ℕ} {g : Given} {ends work : List ℕ} {co
     unfolding rest
     eval-ready = record { coded = ready .coded; low = omega (arith, ready .rooted); begins = begins (b .loads) room q held spread e long }
 
-    pub eval-leaves : {us last : List ℕ} {r : Step} → Evaluates.Evaluates scope after last (length (take (3 * room - 3 * count) (drop (3 * count) work))) us count r (Evaluates.valued (queryAt (codeOf query nodes) (nodes - 1)))
-        → Says.Evaluates query nodes g ends count work (take (3 * count) work ++ (us ++ drop (3 * room - 3 * count) (drop (3 * count) work))) (r .made)
+    pub eval-leaves : {us : List ℕ} {made : Made} → Evaluates.Evaluated scope after (length (take (3 * room - 3 * count) (drop (3 * count) work))) us count made (queryAt (codeOf query nodes) (nodes - 1))
+        → Says.Evaluates query nodes g ends count work (take (3 * count) work ++ (us ++ drop (3 * room - 3 * count) (drop (3 * count) work))) made
     unfolding rest
     eval-leaves x = record { is = λ vs h. evaluated h room q held spread e long query nodes x }

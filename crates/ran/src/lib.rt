@@ -83,17 +83,18 @@ fn spread(vars: &[u16], declared: usize, ends: &[u16]) -> Spans
     scope
 }
 
-// Evaluates the query behind the first so many entries of the work table, which are the values. `held` is scratch.
+// Evaluates the query behind the first so many entries of the work table, which are the values. `held` and `stack` are scratch.
 fn evaluate_with(
     query: &[u16],
     nodes: usize,
     given: Given,
     ends: &[u16],
     held: &mut [u16],
+    stack: &mut [u16],
     work: &mut [u16],
     count: usize,
 ) -> Made
-    requires { ⌜ Ready (now query) nodes given ⌝ ∗ ⌜ Begins given (now ends) (now work) count ⌝ ∗ ⌜ length (now held) ≡ 24576 ⌝ }
+    requires { ⌜ Ready (now query) nodes given ⌝ ∗ ⌜ Begins given (now ends) (now work) count ⌝ ∗ ⌜ length (now held) ≡ 24576 ⌝ ∗ ⌜ length (now stack) ≡ 6144 ⌝ }
     ensures { λ r. ⌜ Evaluates (now (query .entry)) nodes given (now (ends .entry)) count (now (work .entry)) (now (work .exit)) r ⌝ }
 {
     moves::hold(work, count, held, 0);
@@ -103,7 +104,7 @@ fn evaluate_with(
     let first = 3 * count;
     let last = 3 * room;
     let root = nodes - 1;
-    let step = running::eval(
+    running::eval(
         query,
         nodes,
         scope,
@@ -111,8 +112,8 @@ fn evaluate_with(
         &mut work[first..last],
         count,
         root,
-    );
-    step.made
+        stack,
+    )
 }
 
 // The same with scratch for a work table of full capacity.
@@ -128,7 +129,17 @@ fn evaluate(
     ensures { λ r. ⌜ Evaluates (now (query .entry)) nodes given (now (ends .entry)) count (now (work .entry)) (now (work .exit)) r ⌝ }
 {
     let mut held = [0u16; 24576];
-    evaluate_with(query, nodes, given, ends, &mut held, work, count)
+    let mut stack = [0u16; 6144];
+    evaluate_with(
+        query,
+        nodes,
+        given,
+        ends,
+        &mut held,
+        &mut stack,
+        work,
+        count,
+    )
 }
 
 // The answer after the evaluation behind so many entries: the tables stay, or all are cleared.

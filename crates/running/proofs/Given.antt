@@ -15,9 +15,9 @@ use Rattle.spans.specs.declared.Spans.{Spans}
 use Rattle.spans.specs.Shows.{bound, part, Shows, Inside}
 use Rattle.spans.proofs.Binding.{inside-more, inside-bind, shows-bind, shows-below}
 use Rattle.copies.specs.Fills.{Filled}
-use Rattle.copies.proofs.Lent.{drop-zeros, lent, blank-self}
+use Rattle.copies.proofs.Lent.{drop-zeros, blank-self}
 use Rattle.copies.proofs.Filling.{filled-front, filled-words}
-use Rattle.running.specs.Evaluates.{Begins, Ready, Among}
+use Rattle.running.specs.Evaluates.{Begins, Among}
 
 -- entries below n that are kept are kept below fewer
 pub fewer : (held after : List ℕ) (n m : ℕ) → m ≤ n → take (3 * n) after ≡ take (3 * n) held → take (3 * m) after ≡ take (3 * m) held
@@ -55,8 +55,8 @@ module _ {s : Spans} {held rest : List ℕ} {at : ℕ} (b : Begins s held rest a
     top-same = omega (arith, behind-words, b .whole, x .fits)
 
   -- behind the place of an element's entry
-  pub behind-first : 3 ≤ length rest → Behind s held rest at 1 s held (take (length rest - 3) (drop 3 rest))
-  behind-first h = record { fits = omega arith; same = refl; long = refl; kept = refl; blank = lent 3 rest ∙ ap (λ (l : List ℕ). drop 3 l) (b .blank) ∙ drop-zeros 3 (length rest) }
+  pub behind-first : 3 ≤ length rest → Behind s held rest at 1 s held (drop 3 rest)
+  behind-first h = record { fits = omega arith; same = refl; long = refl; kept = refl; blank = ap (λ (l : List ℕ). drop 3 l) (b .blank) ∙ drop-zeros 3 (length rest) }
 
   -- a variable bound
   pub begins-bind : {v i : ℕ} {t : Spans} (x : Span) → v ≤ 63 → i ≡ v → x .from ≤ x .to → x .to ≤ at → (f : Forest) → part held (x .from) (x .to) ≡ forestWords f → t ≡ bound s i x → Begins t held rest at
@@ -71,22 +71,6 @@ module _ {s : Spans} {held rest : List ℕ} {at : ℕ} (b : Begins s held rest a
         env = (i, f) ∷ b .env;
         shows = subst (λ (y : Spans). Shows held y ((i, f) ∷ b .env)) (sym q) (shows-bind (b .inside) i j x f e (b .shows));
       }
-
--- A LOWER NODE
-module _ {code : List ℕ} {nodes : ℕ} {s : Spans} {held rest : List ℕ} {at n : ℕ} (h : Ready code nodes s held rest at n) where
-  pub at-part : (i : ℕ) {q : ℕ} → i ≡ q → q < n → Ready code nodes s held rest at i
-  at-part i e l = record { coded = h .coded; low = omega (arith, e, h .low); begins = h .begins }
-
-  pub at-next : {t : Spans} {after ws : List ℕ} {m : ℕ} (i : ℕ) {q : ℕ} → i ≡ q → q < n → Begins t after ws m → Ready code nodes t after ws m i
-  at-next i e l b = record { coded = h .coded; low = omega (arith, e, h .low); begins = b }
-
-  -- the same node, whatever the code calls it
-  pub at-same : {t : Spans} {after ws : List ℕ} {m : ℕ} (i : ℕ) → i ≡ n → Begins t after ws m → Ready code nodes t after ws m i
-  at-same i e b = record { coded = h .coded; low = omega (arith, e, h .low); begins = b }
-
--- the scope that was handed back
-pub begins-same : {s t : Spans} {held rest : List ℕ} {at : ℕ} → t ≡ s → Begins s held rest at → Begins t held rest at
-begins-same {held = held} {rest} {at} p b = subst (λ (x : Spans). Begins x held rest at) (sym p) b
 
 -- A SOURCE HELD: the forest that stands at the front, copied to entry `at` of the forests held
 module _ (held after us : List ℕ) (at k : ℕ) {room : ℕ} {f : Forest} (filled : Filled room us k f) (fits : 3 * at ≤ length held) (e : after ≡ stored held (3 * at) (take (3 * k) us)) where

@@ -7,8 +7,8 @@ use Prim.Native.Nat.{ℕ, _+_, _*_, _-_, _/_, _≤_, _<_}
 use native.Mathlib.Omega.{arith}
 use lib.ListN.{length, take, drop}
 use borrow.Author.Tests.{le-leb, lt-leb, lt-ltb, le-ltb}
-use Rattle.meaning.specs.Base.{Out, ok, refused, _>>=_, padded}
-use Rattle.meaning.specs.Forests.{Forest, end, leaf, tree, join, size, forestWords, select, children, below}
+use Rattle.meaning.specs.Base.{Out, ok, refused, _>>=_}
+use Rattle.meaning.specs.Forests.{Forest, end, leaf, tree, join, size, select, children, below}
 use Rattle.meaning.specs.Queries as Queries
 use Rattle.meaning.specs.Queries.{Query, Cond}
 use Rattle.meaning.specs.Running.{Env, valueOf, holds, written, forEach, eval}
@@ -16,7 +16,8 @@ use Rattle.copies.specs.declared.Made.{Made}
 use Rattle.copies.specs.declared.Made.the-variants as Made
 use Rattle.copies.specs.Fills as Fills
 use Rattle.copies.specs.Fills.{first, Filled, Copied}
-use Rattle.copies.proofs.Filling.{differ, filled-padded, behind-filled}
+use Rattle.copies.proofs.Lent.{back}
+use Rattle.copies.proofs.Filling.{differ, behind-filled}
 use Rattle.copies.proofs.Firsts.{others}
 use Rattle.picks.specs.declared.Step.{Step}
 use Rattle.moves.specs.Moves.{raised, Wraps, Moves}
@@ -36,17 +37,6 @@ pub left-full : {room : ℕ} {us : List ℕ} {r : Made} {o : Out Forest} {n : �
 left-full e (done h) = differ (cc)
 left-full {n = n} e (full {n = m}) = let p : m ≡ n = cc in ap (refused 21) p
 
--- BY WHAT IT MEANS, for whoever calls the evaluator
-pub left-ok : {room : ℕ} {us : List ℕ} {r : Made} {o : Out Forest} {f : Forest} → o ≡ ok f → Left room us r o → (r ≡ Made.Done (size f)) × (us ≡ padded room (forestWords f))
-left-ok {room} {us} {r} {f = f} e h = by-ok (subst (λ (x : Out Forest). Left room us r x) e h)
-  where
-    by-ok : {t : Made} → Left room us t (ok f) → (t ≡ Made.Done (size f)) × (us ≡ padded room (forestWords f))
-    by-ok (done i) = (ap Made.Done (sym (i .count)), filled-padded i)
-
-pub left-refused : {room : ℕ} {us : List ℕ} {r : Made} {o : Out Forest} {n m : ℕ} → o ≡ refused n m → Left room us r o → (n ≡ 21) × (r ≡ Made.Full m)
-left-refused e (done h) = differ (cc)
-left-refused {n = n} {m} e (full {n = k}) = let p : 21 ≡ n = cc in let q : k ≡ m = cc in (sym p, ap Made.Full q)
-
 pub full-is : {room : ℕ} {us : List ℕ} {r : Made} {o : Out Forest} {n : ℕ} → r ≡ Made.Full n → o ≡ refused 21 n → Left room us r o
 full-is e p = rw (e, p) full
 
@@ -59,8 +49,11 @@ left-written {room} {f = f} at (Fills.done {k = k} h) = rw (le-leb (at + size f)
 left-written {room} {f = f} at (Fills.full h) = rw (lt-leb (at + size f) (at + room / 3) (omega arith)) full
 
 -- ONE FOREST BEHIND ANOTHER
-pub left-join : {room k : ℕ} {us vs : List ℕ} {f : Forest} {r : Made} {o : Out Forest} → Filled room us k f → Left (room - 3 * k) vs r o → Left room (take (3 * k) us ++ (vs ++ drop (length us - 3 * k) (drop (3 * k) us))) (raised k r) (o >>= λ g. ok (join f g))
-left-join h (done i) = done (behind-filled h i)
+pub laid-behind : {room k m : ℕ} {us vs : List ℕ} {f g : Forest} → Filled room us k f → Filled (room - 3 * k) vs m g → Filled room (take (3 * k) us ++ vs) (k + m) (join f g)
+laid-behind {room} {k} {m} {us} {vs} {f} {g} h i = subst (λ (ws : List ℕ). Filled room ws (k + m) (join f g)) (back (3 * k) us vs) (behind-filled h i)
+
+pub left-join : {room k : ℕ} {us vs : List ℕ} {f : Forest} {r : Made} {o : Out Forest} → Filled room us k f → Left (room - 3 * k) vs r o → Left room (take (3 * k) us ++ vs) (raised k r) (o >>= λ g. ok (join f g))
+left-join h (done i) = done (laid-behind h i)
 left-join h full = full
 
 -- the same under other names

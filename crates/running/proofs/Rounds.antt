@@ -2,7 +2,7 @@
 -- Assumes nothing.
 use mathlib.Core.Path.{_≡_, refl, sym, ap, subst, _∙_}
 use mathlib.Core.List.{List, _++_}
-use Prim.Native.Nat.{ℕ, _+_, _*_, _-_, _/_, _≤_, _<_}
+use Prim.Native.Nat.{ℕ, _+_, _*_, _/_, _≤_, _<_}
 use native.Mathlib.Omega.{arith}
 use lib.ListN.{length, getD, take, drop}
 use Rattle.meaning.specs.Base.{Out, ok, refused, _>>=_}
@@ -16,36 +16,18 @@ use Rattle.spans.proofs.Parts.{part-below}
 use Rattle.copies.specs.declared.Made.{Made}
 use Rattle.copies.specs.declared.Made.the-variants as Made
 use Rattle.copies.specs.Fills.{first, Filled}
-use Rattle.copies.proofs.Filling.{filled-none, filled-length, behind-blank, behind-filled}
+use Rattle.copies.proofs.Filling.{filled-none, filled-length, filled-blank}
 use Rattle.copies.proofs.Firsts.{others, some, stretch-none, tree-size, tree-inside, tree-words, others-words}
 use Rattle.picks.specs.declared.Step.{Step}
-use Rattle.running.specs.Evaluates.{Begins, Among, done, Evaluates, bodied, looped}
+use Rattle.running.specs.Evaluates.{Begins, Among, done, Evaluates, bodied, looped, Rounds}
 use Rattle.running.proofs.Given.{Behind}
-use Rattle.running.proofs.Leaving.{left-done, left-full, left-as, full-is, each-first}
+use Rattle.running.proofs.Leaving.{left-done, left-as, laid-behind, each-first}
 use Rattle.running.proofs.Wholes.{behind-left, behind-kept, behind-below}
 
 -- one forest before another before a third
 join-again : (f g : Forest) (o : Out Forest) → ((o >>= λ h. ok (join g h)) >>= λ h. ok (join f h)) ≡ (o >>= λ h. ok (join (join f g) h))
 join-again f g (ok h) = ap ok (sym (join-assoc f g h))
 join-again f g (refused n place) = refl
-
--- the bodies so far, in one environment
-pub record SoFar (v : ℕ) (q : Query) (room at : ℕ) (rest : List ℕ) (source coming : Forest) (k : ℕ) (env : Env) : Type 0 where
-  pub forest : Forest
-  pub filled : Filled room rest k forest
-  pub goes : looped v source q (at + room / 3) env at ≡ (looped v coming q (at + room / 3) env (at + k) >>= λ h. ok (join forest h))
-
--- WHERE THE LOOP HAS COME TO
-pub record Rounds (v : ℕ) (q : Query) (s : Spans) (held start : List ℕ) (at a e : ℕ) (after rest : List ℕ) (t : Spans) (j k : ℕ) : Type 0 where
-  pub kept : t ≡ s
-  pub below : take (3 * at) after ≡ take (3 * at) held
-  pub long : length after ≡ length held
-  pub source : Forest
-  pub was : part held a e ≡ forestWords source
-  pub ordered : j ≤ e
-  pub coming : Forest
-  pub is : part held j e ≡ forestWords coming
-  pub so-far : (env : Env) → Shows held s env → SoFar v q (length start) at rest source coming k env
 
 module _ {v : ℕ} {q : Query} {s : Spans} {held start : List ℕ} {at a e : ℕ} (b : Begins s held start at) (m : Among held a e at) where
   pub rounds-start : Rounds v q s held start at a e held start s a 0
@@ -93,8 +75,8 @@ module _ {v : ℕ} {q : Query} {s : Spans} {held start : List ℕ} {at a e : ℕ
         let c = stretch-none after j e (r .coming) inside-held is-now l in
         rounds-same (record { kept = r .kept; below = r .below; is = λ env h. let x = r .so-far env h in left-as (x .goes ∙ ap (λ (y : Forest). looped v y q (at + length start / 3) env (at + k) >>= λ g. ok (join (x .forest) g)) c ∙ ap ok (join-end (x .forest))) (done (x .filled)) })
 
-    pub turn-behind : Behind s held start at k t after (take (length rest - 3 * k) (drop (3 * k) rest))
-    turn-behind = record { fits = filled .fits; same = r .kept; long = r .long; kept = r .below; blank = behind-blank filled }
+    pub turn-behind : Behind s held start at k t after (drop (3 * k) rest)
+    turn-behind = record { fits = filled .fits; same = r .kept; long = r .long; kept = r .below; blank = filled-blank filled }
 
     -- A ROUND, for a tree that ends at entry next
     module _ (more : j < e) {next : ℕ} (there : next ≡ j + getD after (3 * j + 2) 0 + 1) where
@@ -104,7 +86,7 @@ module _ {v : ℕ} {q : Query} {s : Spans} {held start : List ℕ} {at a e : ℕ
       pub turn-ends : (j < next) × (next ≤ e)
       turn-ends = (omega (arith, there), omega (arith, next-is, tree-inside after j e (r .coming) inside-held is-now more))
 
-      tree-is : part after j next ≡ forestWords (first (r .coming))
+      pub tree-is : part after j next ≡ forestWords (first (r .coming))
       tree-is = ap (λ (i : ℕ). part after j i) next-is ∙ tree-words after j e (r .coming) inside-held is-now more
 
       pub turn-among : Among after j next (at + k)
@@ -114,26 +96,14 @@ module _ {v : ℕ} {q : Query} {s : Spans} {held start : List ℕ} {at a e : ℕ
       turn-goes : (env : Env) → looped v (r .coming) q (at + length start / 3) env (at + k) ≡ (bodied v (first (r .coming)) q (at + length start / 3) env (at + k) >>= λ g. looped v (others (r .coming)) q (at + length start / 3) env (at + k + size g) >>= λ h. ok (join g h))
       turn-goes env = each-first _ (r .coming) (at + k) (some after j e (r .coming) inside-held is-now more)
 
-      module _ {last vs : List ℕ} {body : Step} (w : (f : Forest) → part after j next ≡ forestWords f → Evaluates t after last (length (take (length rest - 3 * k) (drop (3 * k) rest))) vs (at + k) body (bodied v f q)) where
-        tree-left : Evaluates t after last (length (take (length rest - 3 * k) (drop (3 * k) rest))) vs (at + k) body (bodied v (first (r .coming)) q)
+      pub turn-stops : (env : Env) → Shows held s env → {n : ℕ} → bodied v (first (r .coming)) q (at + length start / 3) env (at + k) ≡ refused 21 n → looped v (r .source) q (at + length start / 3) env at ≡ refused 21 n
+      turn-stops env h o = let x = r .so-far env h in x .goes ∙ ap (λ (y : Out Forest). y >>= λ g. ok (join (x .forest) g)) (turn-goes env ∙ ap (λ (y : Out Forest). y >>= λ g. looped v (others (r .coming)) q (at + length start / 3) env (at + k + size g) >>= λ h. ok (join g h)) o)
+
+      module _ {last vs : List ℕ} {body : Step} (w : (f : Forest) → part after j next ≡ forestWords f → Evaluates t after last (length (drop (3 * k) rest)) vs (at + k) body (bodied v f q)) where
+        tree-left : Evaluates t after last (length (drop (3 * k) rest)) vs (at + k) body (bodied v (first (r .coming)) q)
         tree-left = w (first (r .coming)) tree-is
 
-        pub turn-full : (us : List ℕ) {n : ℕ} → body .made ≡ Made.Full n → (f : Forest) → part held a e ≡ forestWords f → Evaluates s held last (length start) us at body (looped v f q)
-        turn-full us {n} p =
-            rounds-same (record {
-              kept = behind-kept b turn-behind tree-left;
-              below = behind-below b turn-behind tree-left;
-              is = λ env h.
-                  let x = r .so-far env h in
-                  let o = left-full p (behind-left b turn-behind tree-left env h) in
-                  full-is p (x .goes ∙ ap (λ (y : Out Forest). y >>= λ g. ok (join (x .forest) g)) (turn-goes env ∙ ap (λ (y : Out Forest). y >>= λ g. looped v (others (r .coming)) q (at + length start / 3) env (at + k + size g) >>= λ h. ok (join g h)) o));
-            })
-
-        -- the answer's room
-        pub turn-fits : {i : ℕ} → body .made ≡ Made.Done i → 3 * (k + i) ≤ length start
-        turn-fits p = let y = left-done p (behind-left b turn-behind tree-left (b .env) (b .shows)) in omega (arith, y .filled .fits, filled .fits)
-
-        pub turn-next : {i : ℕ} → body .made ≡ Made.Done i → length last ≡ length after → Rounds v q s held start at a e last (take (3 * k) rest ++ (vs ++ drop (length rest - 3 * k) (drop (3 * k) rest))) (body .scope) next (k + i)
+        pub turn-next : {i : ℕ} → body .made ≡ Made.Done i → length last ≡ length after → Rounds v q s held start at a e last (take (3 * k) rest ++ vs) (body .scope) next (k + i)
         turn-next {i} p n =
             record {
               kept = behind-kept b turn-behind tree-left;
@@ -150,7 +120,7 @@ module _ {v : ℕ} {q : Query} {s : Spans} {held start : List ℕ} {at a e : ℕ
                   let z : at + k + size (y .forest) ≡ at + (k + i) = omega (arith, y .filled .count) in
                   record {
                     forest = join (x .forest) (y .forest);
-                    filled = behind-filled (x .filled) (y .filled);
+                    filled = laid-behind (x .filled) (y .filled);
                     goes =
                         x .goes
                         ∙ ap (λ (o : Out Forest). o >>= λ g. ok (join (x .forest) g)) (turn-goes env ∙ ap (λ (o : Out Forest). o >>= λ g. looped v (others (r .coming)) q (at + length start / 3) env (at + k + size g) >>= λ h. ok (join g h)) (y .is))

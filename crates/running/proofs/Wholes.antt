@@ -1,18 +1,19 @@
 -- A query's evaluation from those of its parts, as the members of the cycle do it.
 -- Assumes nothing.
 use mathlib.Core.Path.{_≡_, refl, sym, ap, subst, _∙_}
-use mathlib.Core.Bool.{Bool, true, false, not}
+use mathlib.Core.Bool.{Bool, true, not}
 use mathlib.Core.List.{List, _∷_, _++_}
 use Prim.Native.Nat.{ℕ, _+_, _*_, _-_, _/_, _≤_, _<_}
 use native.Mathlib.Omega.{arith}
-use lib.ListN.{length, take, drop}
-use borrow.Author.Tests.{not-true, not-false}
-use Rattle.meaning.specs.Base.{Out, ok, refused}
+use lib.ListN.{length, take, drop, length-append, length-drop}
+use lib.Seq.{drop-at, length-take-le}
+use borrow.Author.Tests.{not-true}
+use Rattle.meaning.specs.Base.{Out, ok}
 use Rattle.meaning.specs.Forests.{Forest, size, forestWords}
 use Rattle.meaning.specs.Queries as Queries
-use Rattle.meaning.specs.Queries.{Query, Cond, queryAt, condAt}
+use Rattle.meaning.specs.Queries.{Query, Cond}
 use Rattle.meaning.specs.Running.{Env, valueOf, written, eval}
-use Rattle.words.specs.Tables.{stored, nodeIn, codeOf}
+use Rattle.words.specs.Tables.{stored}
 use Rattle.spans.specs.declared.Span.{Span}
 use Rattle.spans.specs.declared.Spans.{Spans}
 use Rattle.spans.specs.Shows.{start, stop, bound, part, Shows}
@@ -20,22 +21,25 @@ use Rattle.spans.proofs.Binding.{unbind-bind, shows-bind, shows-below}
 use Rattle.copies.specs.declared.Made.{Made}
 use Rattle.copies.specs.declared.Made.the-variants as Made
 use Rattle.copies.specs.Fills.{Filled}
-use Rattle.copies.proofs.Lent.{back-drop, back-length}
-use Rattle.copies.proofs.Filling.{filled-none, behind-blank}
+use Rattle.copies.proofs.Filling.{filled-none, filled-blank}
 use Rattle.picks.specs.declared.Step.{Step}
 use Rattle.picks.specs.Picks.{Picks, Within}
 use Rattle.moves.specs.Moves.{lifted, Room, Wraps, Moves}
 use Rattle.truths.specs.Tells.{Places, Tells}
-use Rattle.queries.specs.Says.{queryOf, Says}
-use Rattle.queries.specs.declared.Query as Nodes
-use Rattle.queries.proofs.Named.{query-is}
-use Rattle.running.specs.Evaluates.{Begins, Ready, Among, Left, done, full, Evaluates, valued, bodied}
+use Rattle.running.specs.Evaluates.{Begins, Among, Left, done, full, Evaluates, valued, bodied}
 use Rattle.running.proofs.Given.{fewer, Behind, behind-words, top-same, behind-first, held-below, held-part, held-among}
-use Rattle.running.proofs.Leaving.{Got, left-done, left-full, full-is, left-as, left-made, left-written, left-join, left-wrap, left-move, nothing-is, element-is, element-not, pair-is, pair-not, when-is, when-not}
+use Rattle.running.proofs.Leaving.{Got, left-done, left-as, left-made, left-written, left-join, left-wrap, left-move, nothing-is, element-is, element-not, pair-is, when-not}
 
 -- a scope that was handed back shows what it showed
 again : {held : List ℕ} {s t : Spans} {env : Env} → t ≡ s → Shows held s env → Shows held t env
 again {held} {env = env} p h = subst (λ (x : Spans). Shows held x env) (sym p) h
+
+-- the first words as they were, and others behind them
+over-drop : (n : ℕ) (xs ys : List ℕ) → n ≤ length xs → drop n (take n xs ++ ys) ≡ ys
+over-drop n xs ys h = drop-at (take n xs) ys n (length-take-le n xs h)
+
+pub over-length : (n : ℕ) (xs ys : List ℕ) → n ≤ length xs → length ys ≡ length (drop n xs) → length (take n xs ++ ys) ≡ length xs
+over-length n xs ys h e = length-append (take n xs) ys ∙ omega (arith, length-take-le n xs h, e, length-drop n xs)
 
 module _ {s : Spans} {held rest : List ℕ} {at : ℕ} (b : Begins s held rest at) where
   -- what a part got, in the environment that there is
@@ -68,15 +72,15 @@ module _ {s : Spans} {held rest : List ℕ} {at : ℕ} (b : Begins s held rest a
 
   -- behind a part, and behind a source that is held
   module _ {us after : List ℕ} {r : Step} {o : ℕ → Env → ℕ → Out Forest} {k : ℕ} (w : Evaluates s held after (length rest) us at r o) (e : r .made ≡ Made.Done k) (long : length after ≡ length held) where
-    pub behind-part : Behind s held rest at k (r .scope) after (take (length us - 3 * k) (drop (3 * k) us))
-    behind-part = let g = part-got w e in record { fits = g .filled .fits; same = w .kept; long = long; kept = w .below; blank = behind-blank (g .filled) }
+    pub behind-part : Behind s held rest at k (r .scope) after (drop (3 * k) us)
+    behind-part = let g = part-got w e in record { fits = g .filled .fits; same = w .kept; long = long; kept = w .below; blank = filled-blank (g .filled) }
 
     module _ {final : List ℕ} (put : final ≡ stored after (3 * at) (take (3 * k) us)) (as-long : length final ≡ length after) where
       at-fits : 3 * at ≤ length after
       at-fits = omega (arith, b .room, long)
 
-      pub behind-held : Behind s held rest at k (r .scope) final (take (length us - 3 * k) (drop (3 * k) us))
-      behind-held = let g = part-got w e in record { fits = g .filled .fits; same = w .kept; long = as-long ∙ long; kept = held-below after final us at k (g .filled) at-fits put ∙ w .below; blank = behind-blank (g .filled) }
+      pub behind-held : Behind s held rest at k (r .scope) final (drop (3 * k) us)
+      behind-held = let g = part-got w e in record { fits = g .filled .fits; same = w .kept; long = as-long ∙ long; kept = held-below after final us at k (g .filled) at-fits put ∙ w .below; blank = filled-blank (g .filled) }
 
       pub among-held : Among final at (at + k) (at + k)
       among-held = let g = part-got w e in held-among after final us at k (g .filled) at-fits put
@@ -90,26 +94,23 @@ module _ {s : Spans} {held rest : List ℕ} {at : ℕ} (b : Begins s held rest a
     pub element-stops : {us : List ℕ} → length rest < 3 → Evaluates s held held (length rest) us at (record { made = Made.Full n; scope = s }) (valued (Queries.element n l q))
     element-stops h = record { kept = refl; below = refl; is = λ env i. left-as (element-not (at + length rest / 3) n env at l q (omega (arith, b .whole))) full }
 
-    pub element-leaves : {last vs us : List ℕ} {body r : Step} → (h : 3 ≤ length rest) → Evaluates s held last (length (take (length rest - 3) (drop 3 rest))) vs (at + 1) body (valued q) → length vs ≡ length (take (length rest - 3) (drop 3 rest))
-        → Wraps (take 3 rest ++ (vs ++ drop (length rest - 3) (drop 3 rest))) us l body r → Evaluates s held last (length rest) us at r (valued (Queries.element n l q))
+    pub element-leaves : {last vs us : List ℕ} {body r : Step} → (h : 3 ≤ length rest) → Evaluates s held last (length (drop 3 rest)) vs (at + 1) body (valued q) → length vs ≡ length (drop 3 rest)
+        → Wraps (take 3 rest ++ vs) us l body r → Evaluates s held last (length rest) us at r (valued (Queries.element n l q))
     element-leaves {vs = vs} h w long z =
         let x = behind-first b h in
         record {
           kept = ap (λ (y : Step). y .scope) (z .step) ∙ behind-kept x w;
           below = behind-below x w;
-          is = λ env i. left-as (element-is (at + length rest / 3) n env at l q (omega (arith, b .whole))) (left-wrap (back-length 3 rest vs h long) (back-drop 3 rest vs h) z (behind-left x w env i));
+          is = λ env i. left-as (element-is (at + length rest / 3) n env at l q (omega (arith, b .whole))) (left-wrap (over-length 3 rest vs h long) (over-drop 3 rest vs h) z (behind-left x w env i));
         }
 
-    pub element-room : {last vs : List ℕ} {body : Step} → (h : 3 ≤ length rest) → Evaluates s held last (length (take (length rest - 3) (drop 3 rest))) vs (at + 1) body (valued q) → length vs ≡ length (take (length rest - 3) (drop 3 rest)) → Room (length (take 3 rest ++ (vs ++ drop (length rest - 3) (drop 3 rest)))) 1 (body .made)
-    element-room {vs = vs} {body} h w long = subst (λ (m : ℕ). Room m 1 (body .made)) (sym (back-length 3 rest vs h long)) (behind-room (behind-first b h) w)
+    pub element-room : {last vs : List ℕ} {body : Step} → (h : 3 ≤ length rest) → Evaluates s held last (length (drop 3 rest)) vs (at + 1) body (valued q) → length vs ≡ length (drop 3 rest) → Room (length (take 3 rest ++ vs)) 1 (body .made)
+    element-room {vs = vs} {body} h w long = subst (λ (m : ℕ). Room m 1 (body .made)) (sym (over-length 3 rest vs h long)) (behind-room (behind-first b h) w)
 
   -- PAIR
   module _ (n : ℕ) (p q : Query) {us after : List ℕ} {first : Step} (w : Evaluates s held after (length rest) us at first (valued p)) where
-    pub pair-stops : {m : ℕ} → first .made ≡ Made.Full m → Evaluates s held after (length rest) us at first (valued (Queries.pair n p q))
-    pair-stops e = record { kept = w .kept; below = w .below; is = λ env h. full-is e (pair-not (at + length rest / 3) n env at p q (left-full e (w .is env h))) }
-
-    pub pair-leaves : {last vs : List ℕ} {second r : Step} {k : ℕ} (e : first .made ≡ Made.Done k) → length after ≡ length held → Evaluates (first .scope) after last (length (take (length us - 3 * k) (drop (3 * k) us))) vs (at + k) second (valued q) → r ≡ lifted k second
-        → Evaluates s held last (length rest) (take (3 * k) us ++ (vs ++ drop (length us - 3 * k) (drop (3 * k) us))) at r (valued (Queries.pair n p q))
+    pub pair-leaves : {last vs : List ℕ} {second r : Step} {k : ℕ} (e : first .made ≡ Made.Done k) → length after ≡ length held → Evaluates (first .scope) after last (length (drop (3 * k) us)) vs (at + k) second (valued q) → r ≡ lifted k second
+        → Evaluates s held last (length rest) (take (3 * k) us ++ vs) at r (valued (Queries.pair n p q))
     pair-leaves {last} {vs} {second} {r} {k} e long v z =
         let x = behind-part w e long in
         record {
@@ -120,13 +121,10 @@ module _ {s : Spans} {held rest : List ℕ} {at : ℕ} (b : Begins s held rest a
 
   -- LET AND FOR: a source, held, and what follows it, moved down
   module _ (p whole : Query) (rule : Forest → ℕ → Env → ℕ → Out Forest) {us after : List ℕ} {source : Step} (w : Evaluates s held after (length rest) us at source (valued p)) where
-    pub bound-stops : {m : ℕ} → ((top : ℕ) (env : Env) → eval top p env at ≡ refused 21 m → eval top whole env at ≡ refused 21 m) → source .made ≡ Made.Full m → Evaluates s held after (length rest) us at source (valued whole)
-    bound-stops law e = record { kept = w .kept; below = w .below; is = λ env h. full-is e (law (at + length rest / 3) env (left-full e (w .is env h))) }
-
     module _ {k : ℕ} (e : source .made ≡ Made.Done k) (long : length after ≡ length held) (us-long : length us ≡ length rest) {final : List ℕ} (put : final ≡ stored after (3 * at) (take (3 * k) us)) (as-long : length final ≡ length after) where
       pub bound-leaves : ((top : ℕ) (env : Env) (f : Forest) → eval top p env at ≡ ok f → size f ≡ k → eval top whole env at ≡ rule f top env (at + k))
-          → {last vs xs : List ℕ} {body r : Step} → ((f : Forest) → part final at (at + k) ≡ forestWords f → Evaluates (source .scope) final last (length (take (length us - 3 * k) (drop (3 * k) us))) vs (at + k) body (rule f))
-          → length vs ≡ length (take (length us - 3 * k) (drop (3 * k) us)) → Moves (take (3 * k) us ++ (vs ++ drop (length us - 3 * k) (drop (3 * k) us))) xs k body r
+          → {last vs xs : List ℕ} {body r : Step} → ((f : Forest) → part final at (at + k) ≡ forestWords f → Evaluates (source .scope) final last (length (drop (3 * k) us)) vs (at + k) body (rule f))
+          → length vs ≡ length (drop (3 * k) us) → Moves (take (3 * k) us ++ vs) xs k body r
           → Evaluates s held last (length rest) xs at r (valued whole)
       bound-leaves law {vs = vs} {body = body} {r} v n z =
           let x = behind-held w e long put as-long in
@@ -138,23 +136,13 @@ module _ {s : Spans} {held rest : List ℕ} {at : ℕ} (b : Begins s held rest a
             is = λ env h.
                 let i = left-done e (w .is env h) in
                 left-as (law (at + length rest / 3) env (i .forest) (i .is) (i .filled .count))
-                (left-move k (back-length (3 * k) us vs fits n ∙ us-long) (back-drop (3 * k) us vs fits) z (behind-left x (v (i .forest) (source-held w e long put as-long (i .filled))) env h));
+                (left-move k (over-length (3 * k) us vs fits n ∙ us-long) (over-drop (3 * k) us vs fits) z (behind-left x (v (i .forest) (source-held w e long put as-long (i .filled))) env h));
           }
-
-      pub bound-room : {last vs : List ℕ} {body : Step} → ((f : Forest) → part final at (at + k) ≡ forestWords f → Evaluates (source .scope) final last (length (take (length us - 3 * k) (drop (3 * k) us))) vs (at + k) body (rule f)) → length vs ≡ length (take (length us - 3 * k) (drop (3 * k) us)) → Room (length (take (3 * k) us ++ (vs ++ drop (length us - 3 * k) (drop (3 * k) us)))) k (body .made)
-      bound-room {vs = vs} {body} v n =
-          let x = behind-held w e long put as-long in
-          let a = among-held w e long put as-long in
-          let fits : 3 * k ≤ length us = omega (arith, x .fits, us-long) in
-          subst (λ (m : ℕ). Room m k (body .made)) (sym (back-length (3 * k) us vs fits n ∙ us-long)) (behind-room x (v (a .forest) (a .is)))
 
   -- WHEN
   module _ (n : ℕ) (c : Cond) (q : Query) {t : Spans} {told : Bool} (same : t ≡ s) (h : Tells (s .from) (s .to) held told c) where
     pub when-none : {us : List ℕ} → us ≡ rest → not told ≡ true → Evaluates s held held (length rest) us at (record { made = Made.Done 0; scope = t }) (valued (Queries.when n c q))
     when-none u e = record { kept = same; below = refl; is = λ env i. left-as (when-not (at + length rest / 3) n env at c q (sym (h .is env i) ∙ not-true _ e)) (done (filled-none (u ∙ b .blank))) }
-
-    pub when-leaves : {after us : List ℕ} {r : Step} → not told ≡ false → Evaluates t held after (length rest) us at r (valued q) → Evaluates s held after (length rest) us at r (valued (Queries.when n c q))
-    when-leaves e w = record { kept = w .kept ∙ same; below = w .below; is = λ env i. left-as (when-is (at + length rest / 3) n env at c q (sym (h .is env i) ∙ not-false _ e)) (w .is env (again same i)) }
 
   -- INSIDE: the scope is as it was when its variable is unbound again
   pub inside-leaves : {v i : ℕ} {t u : Spans} {after us : List ℕ} {body : Step} (x was : Span) (q : Query) → v ≤ 63 → i ≡ v → t ≡ bound s i x → was ≡ record { from = start s i; to = stop s i } → u ≡ bound (body .scope) i was → Evaluates t held after (length rest) us at body (valued q)
@@ -174,22 +162,3 @@ module _ {s : Spans} {held rest : List ℕ} {at : ℕ} (b : Begins s held rest a
   within {v} l =
       let i = b .inside .is v (omega arith) in
       record { low = l; is = record { ordered = i .0; inside = omega (arith, i .1, b .room); forest = valueOf (b .env) v; is = b .shows .is v (omega arith) } }
-
--- THE NODES that there are
-module _ {code : List ℕ} {nodes : ℕ} {s : Spans} {held rest : List ℕ} {at n : ℕ} (h : Ready code nodes s held rest at n) where
-  abbrev pub query : ℕ → Query
-  query i = queryAt (codeOf code nodes) i
-
-  abbrev pub cond : ℕ → Cond
-  cond i = condAt (codeOf code nodes) i
-
-  -- a node by what it says
-  pub node-leaves : {after us : List ℕ} {r : Step} {c : Nodes.Query} → Says n (nodeIn code n) c → (x : Nodes.Query) → c ≡ x → Evaluates s held after (length rest) us at r (valued (queryOf n cond query x)) → Evaluates s held after (length rest) us at r (valued (queryAt (codeOf code nodes) n))
-  node-leaves {after} {us} {r} says x p w = subst (λ (q : Query). Evaluates s held after (length rest) us at r (valued q)) (sym (query-is code nodes (h .coded) (h .low) says ∙ ap (queryOf n cond query) p)) w
-
-  -- the same node under another name
-  pub query-at : {i q : ℕ} → i ≡ q → {t : Spans} {front after us : List ℕ} {room m : ℕ} {r : Step} → Evaluates t front after room us m r (valued (query i)) → Evaluates t front after room us m r (valued (query q))
-  query-at e {t} {front} {after} {us} {room} {m} {r} w = subst (λ (j : ℕ). Evaluates t front after room us m r (valued (query j))) e w
-
-  pub cond-at : {i p : ℕ} → i ≡ p → {from to front : List ℕ} {told : Bool} → Tells from to front told (cond i) → Tells from to front told (cond p)
-  cond-at e {from} {to} {front} {told} w = subst (λ (j : ℕ). Tells from to front told (cond j)) e w

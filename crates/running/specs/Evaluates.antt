@@ -4,8 +4,8 @@ use mathlib.Core.Path.{_≡_}
 use mathlib.Core.List.{List, _∷_}
 use Prim.Native.Nat.{ℕ, _+_, _*_, _/_, _≤_, _<_}
 use lib.ListN.{length, take}
-use Rattle.meaning.specs.Base.{Out, ok, refused, zeros, forestWidth}
-use Rattle.meaning.specs.Forests.{Forest, forestWords}
+use Rattle.meaning.specs.Base.{Out, ok, refused, _>>=_, zeros, forestWidth}
+use Rattle.meaning.specs.Forests.{Forest, join, forestWords}
 use Rattle.meaning.specs.Queries.{Query}
 use Rattle.meaning.specs.Running.{Env, forEach, eval}
 use Rattle.uses.specs.Counts.{Coded}
@@ -60,3 +60,25 @@ bodied v f q top env at = eval top q ((v, f) ∷ env) at
 
 abbrev pub looped : ℕ → Forest → Query → ℕ → Env → ℕ → Out Forest
 looped v f q top env at = forEach (λ x here. eval top q ((v, x) ∷ env) here) f at
+
+-- WHAT THE EVALUATION LEAVES: for every environment that the scope shows, what the query is in it
+pub record Evaluated (s : Spans) (held : List ℕ) (room : ℕ) (us : List ℕ) (at : ℕ) (made : Made) (q : Query) : Type 0 where
+  pub is : (env : Env) → Shows held s env → Left room us made (eval (at + room / forestWidth) q env at)
+
+-- THE BODIES OF A FOR, so far, in one environment
+pub record SoFar (v : ℕ) (q : Query) (room at : ℕ) (rest : List ℕ) (source coming : Forest) (k : ℕ) (env : Env) : Type 0 where
+  pub forest : Forest
+  pub filled : Filled room rest k forest
+  pub goes : looped v source q (at + room / forestWidth) env at ≡ (looped v coming q (at + room / forestWidth) env (at + k) >>= λ h. ok (join forest h))
+
+-- and where its rounds have come to: of the source, held from entry a to e, the trees from entry j on are still to come, and k entries are there
+pub record Rounds (v : ℕ) (q : Query) (s : Spans) (held start : List ℕ) (at a e : ℕ) (after rest : List ℕ) (t : Spans) (j k : ℕ) : Type 0 where
+  pub kept : t ≡ s
+  pub below : take (forestWidth * at) after ≡ take (forestWidth * at) held
+  pub long : length after ≡ length held
+  pub source : Forest
+  pub was : part held a e ≡ forestWords source
+  pub ordered : j ≤ e
+  pub coming : Forest
+  pub is : part held j e ≡ forestWords coming
+  pub so-far : (env : Env) → Shows held s env → SoFar v q (length start) at rest source coming k env

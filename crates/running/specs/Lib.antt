@@ -1,2 +1,3 @@
--- What the evaluator asks and leaves.
+-- What the evaluator asks and leaves, and how it goes.
 pub mod Evaluates
+pub mod Machine

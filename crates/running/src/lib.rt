@@ -1,286 +1,435 @@
-// The evaluator: a query's forest, from a node of the query table, at the front of the part of the work table that is lent to it. A source that let or
-// for binds is held in a second table, where its variable finds it. A scope comes by value and is handed back as it was. `eval` takes a node apart and the
-// others do one kind of query each; parts have lower nodes, so calls nest no deeper than there are nodes.
+// The evaluator: a query's forest, from a node of the query table, at the front of the part of the work table that is lent to it. One loop does it, with
+// what is begun on a lent stack: a frame is six words. A source that let or for binds is held in a second table, where its variable finds it. A scope
+// comes by value and is handed back: bound before a body and unbound after it. Parts have lower nodes, so there are never more frames than nodes.
 ghost use mathlib.Core.Path.{_≡_};
-ghost use Prim.Native.Nat.{_≤_, _<_};
+ghost use mathlib.Core.List.{List};
+ghost use Prim.Native.Nat.{ℕ, suc, _+_, _*_, _≤_, _<_};
 ghost use lib.ListN.{length};
-ghost use Rattle.meaning.specs.Forests.{Forest, forestWords};
 ghost use Rattle.meaning.specs.Queries as Queries;
 ghost use Rattle.meaning.specs.Queries.{queryAt, condAt};
 ghost use Rattle.words.specs.Tables.{codeOf};
-ghost use Rattle.spans.specs.Shows.{part};
-ghost use Rattle.running.specs.Evaluates.{Ready, Among, Evaluates, valued, bodied, looped};
+ghost use Rattle.running.specs.declared.Next.the-variants as Stands;
+ghost use Rattle.running.specs.Evaluates.{Ready, Evaluated};
+ghost use Rattle.running.specs.Machine.{spot, frameIn, framed, risen, weight, still, Waits, Back, Looping, Guards, Steps};
 use copies::Made;
 use picks::Step;
 use queries::Query;
 use spans::Span;
 use spans::Spans;
 
-// An element: room for its entry, its body behind that, and then the entry.
-fn element(
-    code: &[u16],
-    nodes: usize,
+// A node that is begun: the entry of the work table at which it begins; 0 while its first part is done, and one more than that part's entries while its
+// second is; of a for, the held entry at which its next tree begins; and the stretch that its variable hides.
+struct Frame {
+    node: u16,
+    base: u16,
+    kept: u16,
+    next: u16,
+    hides: Span,
+}
+
+// Where the evaluation stands, with so many frames on its stack: down at a node that is to be done from an entry on, or up with what a node made there.
+enum Next {
+    Down { node: usize, at: usize, top: usize },
+    Up { made: Made, at: usize, top: usize },
+}
+
+// A step of the evaluation: where it stands then, and the scope again.
+struct Turn {
+    next: Next,
     scope: Spans,
-    held: &mut [u16],
-    rest: &mut [u16],
-    at: usize,
-    n: usize,
-    l: u16,
-    q: u16,
-) -> Step
-    requires { ⌜ Ready (now code) nodes scope (now held) (now rest) at n ⌝ ∗ ⌜ q < n ⌝ }
-    ensures { λ r. ⌜ Evaluates scope (now (held .entry)) (now (held .exit)) (length (now (rest .entry))) (now (rest .exit)) at r (valued (Queries.element n l (queryAt (codeOf (now (code .entry)) nodes) q))) ⌝ }
+}
+
+// The frame over i others.
+fn frame_at(stack: &[u16], i: usize) -> Frame
+    requires { ⌜ 6 * i + 6 ≤ length (now stack) ⌝ }
+    ensures { λ r. ⌜ r ≡ frameIn (now (stack .entry)) i ⌝ }
 {
-    if rest.len() < 3 {
-        let made = Made::Full(n);
-        return Step { made, scope };
+    let x = words::read_entry(stack, 2 * i);
+    let y = words::read_entry(stack, 2 * i + 1);
+    let from = y.a;
+    let to = y.b;
+    let hides = Span { from, to };
+    let node = x.kind;
+    let base = x.a;
+    let kept = x.b;
+    let next = y.kind;
+    Frame {
+        node,
+        base,
+        kept,
+        next,
+        hides,
     }
-    let part = words::wide(q);
-    let body = eval(code, nodes, scope, held, &mut rest[3..], at + 1, part);
-    moves::wrap(rest, l, body)
 }
 
-// A pair: one after the other.
-fn pair(
-    code: &[u16],
-    nodes: usize,
-    scope: Spans,
-    held: &mut [u16],
-    rest: &mut [u16],
-    at: usize,
-    n: usize,
-    p: u16,
-    q: u16,
-) -> Step
-    requires { ⌜ Ready (now code) nodes scope (now held) (now rest) at n ⌝ ∗ ⌜ p < n ⌝ ∗ ⌜ q < n ⌝ }
-    ensures { λ r. ⌜ Evaluates scope (now (held .entry)) (now (held .exit)) (length (now (rest .entry))) (now (rest .exit)) at r (valued (Queries.pair n (queryAt (codeOf (now (code .entry)) nodes) p) (queryAt (codeOf (now (code .entry)) nodes) q))) ⌝ }
+// Up with what a node that begins at an entry made.
+fn rise(step: Step, at: usize, top: usize) -> Turn
+    ensures { λ r. ⌜ r ≡ risen step at top ⌝ }
 {
-    let left = words::wide(p);
-    let first = eval(code, nodes, scope, held, rest, at, left);
-    let made = first.made;
-    let Made::Done(k) = made else {
-        return first;
-    };
-    let right = words::wide(q);
-    let top = 3 * k;
-    let second = eval(
-        code,
-        nodes,
-        first.scope,
-        held,
-        &mut rest[top..],
-        at + k,
-        right,
-    );
-    moves::add(k, second)
+    let made = step.made;
+    let scope = step.scope;
+    let next = Next::Up { made, at, top };
+    Turn { next, scope }
 }
 
-// when: q, or nothing.
-fn when(
+// Down into a part of the node that is the frame over i others.
+fn go_on(stack: &mut [u16], i: usize, f: Frame, part: u16, at: usize, scope: Spans) -> Turn
+    requires { ⌜ 6 * i + 6 ≤ length (now stack) ⌝ }
+    ensures { λ r. ⌜ r ≡ record { next = Stands.Down part at (suc i); scope = scope } ⌝ ∗ ⌜ now (stack .exit) ≡ framed (now (stack .entry)) i f ⌝ }
+{
+    let row = 2 * i;
+    words::put_entry(stack, row, f.node, f.base, f.kept);
+    words::put_entry(stack, row + 1, f.next, f.hides.from, f.hides.to);
+    let node = words::wide(part);
+    let top = i + 1;
+    let next = Next::Down { node, at, top };
+    Turn { next, scope }
+}
+
+// Down into the first part of node n, which becomes a frame.
+fn begin(
+    stack: &mut [u16],
+    top: usize,
+    n: usize,
+    base: usize,
+    part: u16,
+    at: usize,
+    scope: Spans,
+) -> Turn
+    requires { ⌜ 6 * top + 6 ≤ length (now stack) ⌝ ∗ ⌜ n < 1024 ⌝ ∗ ⌜ base ≤ 8192 ⌝ }
+    ensures { λ r. ⌜ r ≡ record { next = Stands.Down part at (suc top); scope = scope } ⌝ ∗ ⌜ now (stack .exit) ≡ framed (now (stack .entry)) top (record { node = n; base = base; kept = 0; next = 0; hides = record { from = 0; to = 0 } }) ⌝ }
+{
+    let hides = Span { from: 0, to: 0 };
+    let node = n as u16;
+    let from = base as u16;
+    let f = Frame {
+        node,
+        base: from,
+        kept: 0,
+        next: 0,
+        hides,
+    };
+    go_on(stack, top, f, part, at, scope)
+}
+
+// An element: room for its entry, and then down into its body behind that.
+fn entered(
+    stack: &mut [u16],
+    top: usize,
+    room: usize,
+    n: usize,
+    q: u16,
+    at: usize,
+    scope: Spans,
+) -> Turn
+    requires { ⌜ 6 * top + 6 ≤ length (now stack) ⌝ ∗ ⌜ n < 1024 ⌝ ∗ ⌜ at ≤ 8192 ⌝ }
+    ensures { λ r. ⌜ ((code held rest : List ℕ) (nodes l : ℕ) → room ≡ length rest → Ready code nodes scope held rest at n → queryAt (codeOf code nodes) n ≡ Queries.element n l (queryAt (codeOf code nodes) q) → q < n → Steps code nodes (weight (queryAt (codeOf code nodes) n)) (spot n at scope held rest) held rest (now (stack .entry)) (now (stack .exit)) top r) ⌝ }
+{
+    if room < 3 {
+        let made = Made::Full(n);
+        return rise(Step { made, scope }, at, top);
+    }
+    let inside = at + 1;
+    begin(stack, top, n, at, q, inside, scope)
+}
+
+// when: its condition, and then down into its part; or nothing.
+fn guarded(
     code: &[u16],
     nodes: usize,
-    scope: Spans,
-    held: &mut [u16],
-    rest: &mut [u16],
-    at: usize,
+    held: &[u16],
+    stack: &mut [u16],
+    top: usize,
     n: usize,
     p: u16,
     q: u16,
-) -> Step
-    requires { ⌜ Ready (now code) nodes scope (now held) (now rest) at n ⌝ ∗ ⌜ p < n ⌝ ∗ ⌜ q < n ⌝ }
-    ensures { λ r. ⌜ Evaluates scope (now (held .entry)) (now (held .exit)) (length (now (rest .entry))) (now (rest .exit)) at r (valued (Queries.when n (condAt (codeOf (now (code .entry)) nodes) p) (queryAt (codeOf (now (code .entry)) nodes) q))) ⌝ }
+    at: usize,
+    scope: Spans,
+) -> Turn
+    requires { ⌜ Guards (now code) nodes scope (now held) at n p ⌝ ∗ ⌜ 6 * top + 6 ≤ length (now stack) ⌝ }
+    ensures { λ r. ⌜ ((rest : List ℕ) → Ready (now (code .entry)) nodes scope (now (held .entry)) rest at n → queryAt (codeOf (now (code .entry)) nodes) n ≡ Queries.when n (condAt (codeOf (now (code .entry)) nodes) p) (queryAt (codeOf (now (code .entry)) nodes) q) → q < n → Steps (now (code .entry)) nodes (weight (queryAt (codeOf (now (code .entry)) nodes) n)) (spot n at scope (now (held .entry)) rest) (now (held .entry)) rest (now (stack .entry)) (now (stack .exit)) top r) ⌝ }
 {
     let told = truths::judge(code, nodes, words::wide(p), scope, held);
     let scope = told.scope;
     if !told.holds {
         let made = Made::Done(0);
-        return Step { made, scope };
+        return rise(Step { made, scope }, at, top);
     }
-    let part = words::wide(q);
-    eval(code, nodes, scope, held, rest, at, part)
+    begin(stack, top, n, at, q, at, scope)
 }
 
-// A body in which variable v has the held entries from `a` to `e`: bind, body, unbind. This is one round of a for, and the whole of a let.
-fn inside(
+// A step down at node n, which the rest from an entry on is lent to.
+fn down(
     code: &[u16],
     nodes: usize,
     scope: Spans,
-    held: &mut [u16],
-    rest: &mut [u16],
-    at: usize,
-    v: u16,
-    a: usize,
-    e: usize,
-    q: u16,
-) -> Step
-    requires { ⌜ Ready (now code) nodes scope (now held) (now rest) at q ⌝ ∗ ⌜ v ≤ 63 ⌝ ∗ ⌜ Among (now held) a e at ⌝ }
-    ensures { λ r. ⌜ ((f : Forest) → part (now (held .entry)) a e ≡ forestWords f → Evaluates scope (now (held .entry)) (now (held .exit)) (length (now (rest .entry))) (now (rest .exit)) at r (bodied v f (queryAt (codeOf (now (code .entry)) nodes) q))) ⌝ }
-{
-    let i = words::wide(v);
-    let from = a as u16;
-    let to = e as u16;
-    let x = Span { from, to };
-    let bound = scope.bind(i, x);
-    let part = words::wide(q);
-    let body = eval(code, nodes, bound.scope, held, rest, at, part);
-    let made = body.made;
-    let scope = body.scope.unbind(i, bound.span);
-    Step { made, scope }
-}
-
-// let: the source, held for its variable, the body above it, and the body moved down.
-fn let_in(
-    code: &[u16],
-    nodes: usize,
-    scope: Spans,
-    held: &mut [u16],
+    held: &[u16],
     rest: &mut [u16],
     at: usize,
     n: usize,
-    v: u16,
-    p: u16,
-    q: u16,
-) -> Step
-    requires { ⌜ Ready (now code) nodes scope (now held) (now rest) at n ⌝ ∗ ⌜ v ≤ 63 ⌝ ∗ ⌜ p < n ⌝ ∗ ⌜ q < n ⌝ }
-    ensures { λ r. ⌜ Evaluates scope (now (held .entry)) (now (held .exit)) (length (now (rest .entry))) (now (rest .exit)) at r (valued (Queries.let-in n v (queryAt (codeOf (now (code .entry)) nodes) p) (queryAt (codeOf (now (code .entry)) nodes) q))) ⌝ }
+    stack: &mut [u16],
+    top: usize,
+) -> Turn
+    requires { ⌜ Ready (now code) nodes scope (now held) (now rest) at n ⌝ ∗ ⌜ 6 * top + 6 ≤ length (now stack) ⌝ }
+    ensures { λ r. ⌜ Steps (now (code .entry)) nodes (weight (queryAt (codeOf (now (code .entry)) nodes) n)) (spot n at scope (now (held .entry)) (now (rest .entry))) (now (held .entry)) (now (rest .exit)) (now (stack .entry)) (now (stack .exit)) top r ⌝ }
 {
-    let part = words::wide(p);
-    let source = eval(code, nodes, scope, held, rest, at, part);
-    let made = source.made;
-    let Made::Done(k) = made else {
-        return source;
-    };
-    moves::hold(rest, k, held, at);
-    let top = 3 * k;
-    let end = at + k;
-    let body = inside(
-        code,
-        nodes,
-        source.scope,
-        held,
-        &mut rest[top..],
-        end,
-        v,
-        at,
-        end,
-        q,
-    );
-    moves::down(rest, k, body)
+    let query = queries::read_query(code, n);
+    match query {
+        Query::Nothing => {
+            let made = Made::Done(0);
+            rise(Step { made, scope }, at, top)
+        }
+        Query::Text(t) => rise(picks::text(scope, rest, n, t), at, top),
+        Query::Element(_, q) => entered(stack, top, rest.len(), n, q, at, scope),
+        Query::Pair(p, _) => begin(stack, top, n, at, p, at, scope),
+        Query::Variable(v) => rise(picks::variable(scope, held, rest, n, v), at, top),
+        Query::Child(v, test) => rise(picks::child(scope, held, rest, n, v, test), at, top),
+        Query::Dos(v, test) => rise(picks::dos(scope, held, rest, n, v, test), at, top),
+        Query::For(_, p, _) => begin(stack, top, n, at, p, at, scope),
+        Query::Let(_, p, _) => begin(stack, top, n, at, p, at, scope),
+        Query::When(p, q) => guarded(code, nodes, held, stack, top, n, p, q, at, scope),
+    }
 }
 
-// The bodies of a for, one above the other for each tree of the held entries from `a` to `e`.
-fn each(
-    code: &[u16],
-    nodes: usize,
-    scope: Spans,
-    held: &mut [u16],
-    rest: &mut [u16],
-    at: usize,
-    v: u16,
-    a: usize,
-    e: usize,
-    q: u16,
-) -> Step
-    requires { ⌜ Ready (now code) nodes scope (now held) (now rest) at q ⌝ ∗ ⌜ v ≤ 63 ⌝ ∗ ⌜ Among (now held) a e at ⌝ }
-    ensures { λ r. ⌜ ((f : Forest) → part (now (held .entry)) a e ≡ forestWords f → Evaluates scope (now (held .entry)) (now (held .exit)) (length (now (rest .entry))) (now (rest .exit)) at r (looped v f (queryAt (codeOf (now (code .entry)) nodes) q))) ⌝ }
+// A pair with k entries made from an entry on: by its first part, and then comes its second behind them; or by its second.
+fn paired(stack: &mut [u16], i: usize, f: Frame, q: u16, at: usize, k: usize, scope: Spans) -> Turn
+    requires { ⌜ 6 * i + 6 ≤ length (now stack) ⌝ ∗ ⌜ at + k ≤ 8192 ⌝ ∗ ⌜ f .kept + k ≤ 8193 ⌝ }
+    ensures { λ r. ⌜ ((held rest : List ℕ) (w : Waits (λ n p r. Queries.pair n p r) q f at k scope held rest) → Steps (w .code) (w .nodes) (still (queryAt (codeOf (w .code) (w .nodes)) (w .back .outer .node)) f) (w .back .outer) held rest (now (stack .entry)) (now (stack .exit)) i r) ⌝ }
 {
-    let mut scope = scope;
-    let mut j = a;
-    let mut k = 0;
-    while j < e {
-        let next = j + words::wide(held[3 * j + 2]) + 1;
-        let top = 3 * k;
-        let body = inside(
-            code,
-            nodes,
-            scope,
-            held,
-            &mut rest[top..],
-            at + k,
-            v,
-            j,
-            next,
-            q,
-        );
-        let made = body.made;
-        let Made::Done(m) = made else {
-            return body;
+    if f.kept == 0 {
+        let kept = k as u16 + 1;
+        let hides = f.hides;
+        let g = Frame {
+            node: f.node,
+            base: f.base,
+            kept,
+            next: 0,
+            hides,
         };
-        scope = body.scope;
-        k += m;
-        j = next;
+        return go_on(stack, i, g, q, at + k, scope);
     }
+    let first = words::wide(f.kept) - 1;
     let made = Made::Done(k);
-    Step { made, scope }
+    let both = moves::add(first, Step { made, scope });
+    rise(both, words::wide(f.base), i)
 }
 
-// for: the source, held for its variable, the bodies above it for each of its trees in turn, and then all moved down.
-fn for_in(
+// let with k entries made from an entry on: by its source, which is held for its variable, and then comes its body; or by its body, which is moved down.
+fn named(
+    held: &mut [u16],
+    rest: &mut [u16],
+    stack: &mut [u16],
+    i: usize,
+    f: Frame,
+    v: u16,
+    q: u16,
+    at: usize,
+    k: usize,
+    scope: Spans,
+) -> Turn
+    requires { ⌜ 6 * i + 6 ≤ length (now stack) ⌝ ∗ ⌜ v ≤ 63 ⌝ ∗ ⌜ Waits (λ n p r. Queries.let-in n v p r) q f at k scope (now held) (now rest) ⌝ }
+    ensures { λ r. ⌜ ((w : Waits (λ n p r. Queries.let-in n v p r) q f at k scope (now (held .entry)) (now (rest .entry))) → Steps (w .code) (w .nodes) (still (queryAt (codeOf (w .code) (w .nodes)) (w .back .outer .node)) f) (w .back .outer) (now (held .exit)) (now (rest .exit)) (now (stack .entry)) (now (stack .exit)) i r) ⌝ }
+{
+    let base = words::wide(f.base);
+    let w = words::wide(v);
+    if f.kept != 0 {
+        let hides = f.hides;
+        let scope = scope.unbind(w, hides);
+        let made = Made::Done(k);
+        let body = moves::down(rest, words::wide(f.kept) - 1, Step { made, scope });
+        return rise(body, base, i);
+    }
+    moves::hold(rest, k, held, base);
+    let end = base + k;
+    let to = end as u16;
+    let x = Span { from: f.base, to };
+    let bound = scope.bind(w, x);
+    let hides = bound.span;
+    let kept = k as u16 + 1;
+    let g = Frame {
+        node: f.node,
+        base: f.base,
+        kept,
+        next: 0,
+        hides,
+    };
+    go_on(stack, i, g, q, at + k, bound.scope)
+}
+
+// for with its source held and bodies of m entries behind it: the next tree's body, or, when there is none, all moved down.
+fn round(
+    held: &[u16],
+    rest: &mut [u16],
+    stack: &mut [u16],
+    i: usize,
+    f: Frame,
+    v: u16,
+    q: u16,
+    m: usize,
+    scope: Spans,
+) -> Turn
+    requires { ⌜ 6 * i + 6 ≤ length (now stack) ⌝ ∗ ⌜ v ≤ 63 ⌝ ∗ ⌜ Looping v q f m scope (now held) (now rest) ⌝ }
+    ensures { λ r. ⌜ ((l : Looping v q f m scope (now (held .entry)) (now (rest .entry))) → Steps (l .code) (l .nodes) (still (queryAt (codeOf (l .code) (l .nodes)) (l .outer .node)) f) (l .outer) (now (held .entry)) (now (rest .exit)) (now (stack .entry)) (now (stack .exit)) i r) ⌝ }
+{
+    let base = words::wide(f.base);
+    let k = words::wide(f.kept) - 1;
+    let j = words::wide(f.next);
+    let end = base + k;
+    if j < end {
+        let after = j + words::wide(held[3 * j + 2]) + 1;
+        let to = after as u16;
+        let x = Span { from: f.next, to };
+        let bound = scope.bind(words::wide(v), x);
+        let hides = bound.span;
+        let g = Frame {
+            node: f.node,
+            base: f.base,
+            kept: f.kept,
+            next: to,
+            hides,
+        };
+        return go_on(stack, i, g, q, end + m, bound.scope);
+    }
+    let made = Made::Done(m);
+    rise(moves::down(rest, k, Step { made, scope }), base, i)
+}
+
+// for with k entries made from an entry on: by its source, which is held for its variable; or by the body of one tree. Then comes the next tree.
+fn each(
+    held: &mut [u16],
+    rest: &mut [u16],
+    stack: &mut [u16],
+    i: usize,
+    f: Frame,
+    v: u16,
+    q: u16,
+    at: usize,
+    k: usize,
+    scope: Spans,
+) -> Turn
+    requires { ⌜ 6 * i + 6 ≤ length (now stack) ⌝ ∗ ⌜ v ≤ 63 ⌝ ∗ ⌜ Waits (λ n p r. Queries.for n v p r) q f at k scope (now held) (now rest) ⌝ }
+    ensures { λ r. ⌜ ((w : Waits (λ n p r. Queries.for n v p r) q f at k scope (now (held .entry)) (now (rest .entry))) → Steps (w .code) (w .nodes) (still (queryAt (codeOf (w .code) (w .nodes)) (w .back .outer .node)) f) (w .back .outer) (now (held .exit)) (now (rest .exit)) (now (stack .entry)) (now (stack .exit)) i r) ⌝ }
+{
+    let base = words::wide(f.base);
+    if f.kept != 0 {
+        let hides = f.hides;
+        let scope = scope.unbind(words::wide(v), hides);
+        let source = base + words::wide(f.kept) - 1;
+        let m = at - source + k;
+        return round(held, rest, stack, i, f, v, q, m, scope);
+    }
+    moves::hold(rest, k, held, base);
+    let hides = f.hides;
+    let kept = k as u16 + 1;
+    let g = Frame {
+        node: f.node,
+        base: f.base,
+        kept,
+        next: f.base,
+        hides,
+    };
+    round(held, rest, stack, i, g, v, q, 0, scope)
+}
+
+// A step up to the frame f over i others, whose part made k entries from an entry on; the rest is lent from where the frame's node begins.
+fn up(
     code: &[u16],
     nodes: usize,
     scope: Spans,
     held: &mut [u16],
     rest: &mut [u16],
+    f: Frame,
     at: usize,
-    n: usize,
-    v: u16,
-    p: u16,
-    q: u16,
-) -> Step
-    requires { ⌜ Ready (now code) nodes scope (now held) (now rest) at n ⌝ ∗ ⌜ v ≤ 63 ⌝ ∗ ⌜ p < n ⌝ ∗ ⌜ q < n ⌝ }
-    ensures { λ r. ⌜ Evaluates scope (now (held .entry)) (now (held .exit)) (length (now (rest .entry))) (now (rest .exit)) at r (valued (Queries.for n v (queryAt (codeOf (now (code .entry)) nodes) p) (queryAt (codeOf (now (code .entry)) nodes) q))) ⌝ }
+    k: usize,
+    stack: &mut [u16],
+    i: usize,
+) -> Turn
+    requires { ⌜ Back (now code) nodes f at k scope (now held) (now rest) ⌝ ∗ ⌜ 6 * i + 6 ≤ length (now stack) ⌝ }
+    ensures { λ r. ⌜ ((b : Back (now (code .entry)) nodes f at k scope (now (held .entry)) (now (rest .entry))) → Steps (now (code .entry)) nodes (still (queryAt (codeOf (now (code .entry)) nodes) (b .outer .node)) f) (b .outer) (now (held .exit)) (now (rest .exit)) (now (stack .entry)) (now (stack .exit)) i r) ⌝ }
 {
-    let part = words::wide(p);
-    let source = eval(code, nodes, scope, held, rest, at, part);
-    let made = source.made;
-    let Made::Done(k) = made else {
-        return source;
-    };
-    moves::hold(rest, k, held, at);
-    let top = 3 * k;
-    let end = at + k;
-    let bodies = each(
-        code,
-        nodes,
-        source.scope,
-        held,
-        &mut rest[top..],
-        end, // behind the whole source
-        v,
-        at,
-        end,
-        q,
-    );
-    moves::down(rest, k, bodies)
+    let query = queries::read_query(code, words::wide(f.node));
+    match query {
+        Query::Element(l, _) => {
+            let made = Made::Done(k);
+            rise(
+                moves::wrap(rest, l, Step { made, scope }),
+                words::wide(f.base),
+                i,
+            )
+        }
+        Query::Pair(_, q) => paired(stack, i, f, q, at, k, scope),
+        Query::For(v, _, q) => each(held, rest, stack, i, f, v, q, at, k, scope),
+        Query::Let(v, _, q) => named(held, rest, stack, i, f, v, q, at, k, scope),
+        _ => {
+            let made = Made::Done(k);
+            rise(Step { made, scope }, at, i)
+        }
+    }
 }
 
-// The query at node n, at the front of `rest`, which begins at entry `at` of the work table.
+// The query at node n, at the front of `rest`, which begins at entry `first` of the work table. The stack has six words for each node.
 pub fn eval(
     code: &[u16],
     nodes: usize,
     scope: Spans,
     held: &mut [u16],
     rest: &mut [u16],
-    at: usize,
+    first: usize,
     n: usize,
-) -> Step
-    requires { ⌜ Ready (now code) nodes scope (now held) (now rest) at n ⌝ }
-    ensures { λ r. ⌜ Evaluates scope (now (held .entry)) (now (held .exit)) (length (now (rest .entry))) (now (rest .exit)) at r (valued (queryAt (codeOf (now (code .entry)) nodes) n)) ⌝ }
+    stack: &mut [u16],
+) -> Made
+    requires { ⌜ Ready (now code) nodes scope (now held) (now rest) first n ⌝ ∗ ⌜ 6144 ≤ length (now stack) ⌝ }
+    ensures { λ r. ⌜ Evaluated scope (now (held .entry)) (length (now (rest .entry))) (now (rest .exit)) first r (queryAt (codeOf (now (code .entry)) nodes) n) ⌝ }
 {
-    let query = queries::read_query(code, n);
-    match query {
-        Query::Nothing => {
-            let made = Made::Done(0);
-            Step { made, scope }
+    let mut here = scope;
+    let mut next = Next::Down {
+        node: n,
+        at: first,
+        top: 0,
+    };
+    loop {
+        match next {
+            Next::Down { node, at, top } => {
+                let from = 3 * (at - first);
+                let turn = down(
+                    code,
+                    nodes,
+                    here,
+                    held,
+                    &mut rest[from..],
+                    at,
+                    node,
+                    stack,
+                    top,
+                );
+                here = turn.scope;
+                next = turn.next;
+            }
+            Next::Up { made, at, top } => {
+                let Made::Done(k) = made else {
+                    return made;
+                };
+                if top == 0 {
+                    return made;
+                }
+                let i = top - 1;
+                let f = frame_at(stack, i);
+                let from = 3 * (words::wide(f.base) - first);
+                let turn = up(
+                    code,
+                    nodes,
+                    here,
+                    held,
+                    &mut rest[from..],
+                    f,
+                    at,
+                    k,
+                    stack,
+                    i,
+                );
+                here = turn.scope;
+                next = turn.next;
+            }
         }
-        Query::Text(t) => picks::text(scope, rest, n, t),
-        Query::Element(l, q) => element(code, nodes, scope, held, rest, at, n, l, q),
-        Query::Pair(p, q) => pair(code, nodes, scope, held, rest, at, n, p, q),
-        Query::Variable(v) => picks::variable(scope, held, rest, n, v),
-        Query::Child(v, test) => picks::child(scope, held, rest, n, v, test),
-        Query::Dos(v, test) => picks::dos(scope, held, rest, n, v, test),
-        Query::For(v, p, q) => for_in(code, nodes, scope, held, rest, at, n, v, p, q),
-        Query::Let(v, p, q) => let_in(code, nodes, scope, held, rest, at, n, v, p, q),
-        Query::When(p, q) => when(code, nodes, scope, held, rest, at, n, p, q),
     }
 }
