@@ -100,11 +100,30 @@ fn tangled_within(
     first_tangled(vars, declared, marks)
 }
 
-// The same, of at most 4,096 entries.
-pub fn tangled(types: &[u16], count: usize, vars: &[u16], declared: usize) -> words::Found
+// The same with marks for 256 entries, and for 4,096: clearing them is most of what a small table costs.
+fn tangled_of_few(types: &[u16], count: usize, vars: &[u16], declared: usize) -> words::Found
+    requires { ⌜ Typed (now types) count ⌝ ∗ ⌜ count ≤ 256 ⌝ ∗ ⌜ 3 * declared ≤ length (now vars) ⌝ ∗ ⌜ Scoped count (varsOf (now vars) declared) ⌝ }
+    ensures { λ r. ⌜ ((D : Defs) → Formed D (tableOf (now (types .entry)) count) → found r ≡ tangled D (tableOf (now (types .entry)) count) (varsOf (now (vars .entry)) declared)) ⌝ }
+{
+    let mut marks = [0u16; 256];
+    tangled_within(types, count, vars, declared, &mut marks)
+}
+
+fn tangled_of_many(types: &[u16], count: usize, vars: &[u16], declared: usize) -> words::Found
     requires { ⌜ Typed (now types) count ⌝ ∗ ⌜ count ≤ 4096 ⌝ ∗ ⌜ 3 * declared ≤ length (now vars) ⌝ ∗ ⌜ Scoped count (varsOf (now vars) declared) ⌝ }
     ensures { λ r. ⌜ ((D : Defs) → Formed D (tableOf (now (types .entry)) count) → found r ≡ tangled D (tableOf (now (types .entry)) count) (varsOf (now (vars .entry)) declared)) ⌝ }
 {
     let mut marks = [0u16; 4096];
     tangled_within(types, count, vars, declared, &mut marks)
+}
+
+// The same, with as many marks as the table needs.
+pub fn tangled(types: &[u16], count: usize, vars: &[u16], declared: usize) -> words::Found
+    requires { ⌜ Typed (now types) count ⌝ ∗ ⌜ count ≤ 4096 ⌝ ∗ ⌜ 3 * declared ≤ length (now vars) ⌝ ∗ ⌜ Scoped count (varsOf (now vars) declared) ⌝ }
+    ensures { λ r. ⌜ ((D : Defs) → Formed D (tableOf (now (types .entry)) count) → found r ≡ tangled D (tableOf (now (types .entry)) count) (varsOf (now (vars .entry)) declared)) ⌝ }
+{
+    if count <= 256 {
+        return tangled_of_few(types, count, vars, declared);
+    }
+    tangled_of_many(types, count, vars, declared)
 }

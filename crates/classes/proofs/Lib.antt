@@ -1,4 +1,5 @@
 -- Laws of the array of classes. Read in this order.
 pub mod Laws
 pub mod Words
-pub mod Passes
+pub mod Lacking
+pub mod Climbing

@@ -1,10 +1,10 @@
 -- The array of classes, one word for each type entry: what a word means, when it is its entry's class, and what filling asks and does.
 -- Assumes nothing.
 use mathlib.Core.Path.{_≡_}
-use mathlib.Core.Bool.{Bool, false, _||_}
+use mathlib.Core.Bool.{false, _||_}
 use mathlib.Core.List.{List}
 use mathlib.Core.Option.{none}
-use Prim.Native.Nat.{ℕ, suc, _*_, _<_, _≤_}
+use Prim.Native.Nat.{ℕ, _*_, _<_, _≤_}
 use lib.Dec.{eqb}
 use lib.ListN.{length, getD}
 use Rattle.meaning.specs.Base.{In, typeWidth}
@@ -12,7 +12,6 @@ use Rattle.meaning.specs.Types.{Entry, Table, Defs, nameOf}
 use Rattle.meaning.specs.Reach.{stepsOf}
 use Rattle.meaning.specs.Formed.{Formed}
 use Rattle.meaning.specs.Shapes.{Class, one, maybe, more, any, allowing, expand, shape, quant}
-use Rattle.meaning.proofs.Guard.{rank}
 use Rattle.words.specs.Tables.{tableOf}
 
 -- the words of the classes 1, ?, + and *; and back
@@ -46,13 +45,3 @@ pub record Place (D : Defs) (ws : List ℕ) (n : ℕ) (cs : List ℕ) : Type 0 w
   pub formed : Formed D (tableOf ws n)
   pub inside : typeWidth * n ≤ length ws
   pub long : n ≤ length cs
-
--- the words of those entries are right that reach fewer than p definitions without entering an element
-abbrev pub Known : Defs → Table → ℕ → List ℕ → Type 0
-Known D T p cs = (e : ℕ) → e < length T → rank D T e < p → Right D T cs e
-
--- what one pass from cs to ds does: one rank more is right, and where it changed nothing, all
-pub record Passed (D : Defs) (T : Table) (cs ds : List ℕ) (changed : Bool) : Type 0 where
-  pub long : length ds ≡ length cs
-  pub further : (p : ℕ) → Known D T p cs → Known D T (suc p) ds
-  pub still : changed ≡ false → Filled D T ds

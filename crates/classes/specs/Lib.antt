@@ -1,2 +1,3 @@
--- What a word of the array of classes means, and when the array is right.
+-- What a word of the array of classes means, when the array is right, and how it is filled.
 pub mod Classes
+pub mod Climbs

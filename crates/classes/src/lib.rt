@@ -1,16 +1,18 @@
-// The class of every type entry, in an array of one word for each: 1, 2 for ?, 3 for +, 4 for *. Passes upwards fill it, so that entries that many
-// others share cost no more than others; an entry that is appended gets its class from those of its parts.
+// The class of every type entry, in an array of one word for each: 1, 2 for ?, 3 for +, 4 for *, and 0 where it is not known yet. Each entry's class is
+// computed once, after those of its parts; an entry that is appended gets its class from those of its parts.
 ghost use mathlib.Core.Path.{_≡_};
 ghost use mathlib.Core.Bool.{true, false};
 ghost use mathlib.Core.List.{[], _∷_, _++_};
 ghost use mathlib.Core.Option.{none};
 ghost use Prim.Native.Nat.{_<_, _≤_};
-ghost use lib.ListN.{length, getD, set, take};
+ghost use lib.ListN.{length, getD, take};
 ghost use Rattle.meaning.specs.Types.{Table, Defs, entryOf, nameOf, at};
+ghost use Rattle.meaning.specs.Reach.{stepsOf};
 ghost use Rattle.meaning.specs.Formed.{Lower, Formed};
 ghost use Rattle.meaning.specs.Shapes.{allowing, comma, either, shape, quant};
 ghost use Rattle.words.specs.Tables.{tableOf};
-ghost use Rattle.classes.specs.Classes.{codeOf, classOf, Filled, Parts, From, Place, Passed};
+ghost use Rattle.classes.specs.Classes.{codeOf, classOf, Filled, Parts, From, Place};
+ghost use Rattle.classes.specs.Climbs.{Lacks, Sound, Stepped, Climbed, Begun};
 
 // Whether a class allows none, and whether it allows many.
 fn none(c: u16) -> bool
@@ -112,7 +114,7 @@ pub fn class_of(kind: u16, a: u16, b: u16, classes: &[u16]) -> u16
 }
 
 // The class of entry e, where those of its parts are known. The first `used` of `defs` are the definitions.
-pub fn class_at(
+fn class_at(
     types: &[u16],
     count: usize,
     defs: &[u16],
@@ -134,44 +136,135 @@ pub fn class_at(
     from_parts(kind, a, b, classes)
 }
 
-// Puts a class in its place, and says whether anything has changed.
-fn settle(classes: &mut [u16], e: usize, c: u16, changed: bool) -> bool
-    requires { ⌜ e < length (now classes) ⌝ }
-    ensures { λ r. ⌜ (now (classes .exit) ≡ set (now (classes .entry)) e c) × (r ≡ false → (changed ≡ false) × (getD (now (classes .entry)) e 0 ≡ c)) ⌝ }
-{
-    let old = classes[e];
-    classes[e] = c;
-    if old == c {
-        return changed;
-    }
-    true
+// What an entry waits for: a part that has no class yet, or nothing.
+enum Wait {
+    Nothing,
+    Part(u16),
 }
 
-// One pass upwards: each entry's class from those of its parts as they are then.
-fn pass(types: &[u16], count: usize, defs: &[u16], used: usize, classes: &mut [u16]) -> bool
-    requires { ⌜ Place (take used (now defs)) (now types) count (now classes) ⌝ }
-    ensures { λ r. ⌜ Passed (take used (now (defs .entry))) (tableOf (now (types .entry)) count) (now (classes .entry)) (now (classes .exit)) r ⌝ }
+// A part that has no class, of one and of two.
+fn lacks(classes: &[u16], x: u16) -> Wait
+    ensures { λ r. ⌜ Lacks (now (classes .entry)) (x ∷ []) r ⌝ }
 {
-    let mut changed = false;
-    let mut e = 0;
-    while e < count {
-        let c = class_at(types, count, defs, used, classes, e);
-        changed = settle(classes, e, c, changed);
-        e += 1;
+    if part(classes, x) == 0 {
+        return Wait::Part(x);
     }
-    changed
+    Wait::Nothing
 }
 
-// The classes of all entries: passes until nothing changes, and no more than 65, since there are no more than 64 definitions to pass on the way down.
-pub fn fill(types: &[u16], count: usize, defs: &[u16], used: usize, classes: &mut [u16])
-    requires { ⌜ Place (take used (now defs)) (now types) count (now classes) ⌝ }
+fn lacks_two(classes: &[u16], x: u16, y: u16) -> Wait
+    ensures { λ r. ⌜ Lacks (now (classes .entry)) (x ∷ y ∷ []) r ⌝ }
+{
+    if part(classes, x) == 0 {
+        return Wait::Part(x);
+    }
+    lacks(classes, y)
+}
+
+// The same of what stands directly in an entry, elements not entered.
+fn waits(kind: u16, a: u16, b: u16, defs: &[u16], classes: &[u16]) -> Wait
+    requires { ⌜ (kind ≡ 9 → a < length (now defs)) ⌝ }
+    ensures { λ r. ⌜ Lacks (now (classes .entry)) (stepsOf false (now (defs .entry)) (entryOf kind a b)) r ⌝ }
+{
+    match kind {
+        4 | 5 => lacks_two(classes, a, b),
+        6 | 7 | 8 => lacks(classes, a),
+        9 => lacks(classes, defs[words::wide(a)]),
+        _ => Wait::Nothing,
+    }
+}
+
+// One step from entry `at`: down to a part that it waits for, which gets `at` as its way back; or, where it waits for nothing, its class, and back.
+fn step(
+    types: &[u16],
+    count: usize,
+    defs: &[u16],
+    used: usize,
+    classes: &mut [u16],
+    back: &mut [u16],
+    at: usize,
+) -> usize
+    requires { ⌜ Place (take used (now defs)) (now types) count (now classes) ⌝ ∗ ⌜ count ≤ length (now back) ⌝ ∗ ⌜ at < count ⌝ }
+    ensures { λ r. ⌜ Stepped (take used (now (defs .entry))) (tableOf (now (types .entry)) count) (now (classes .entry)) (now (classes .exit)) (now (back .entry)) (now (back .exit)) at r ⌝ }
+{
+    let w = words::read_entry(types, at);
+    let wait = waits(w.kind, w.a, w.b, defs, classes);
+    match wait {
+        Wait::Nothing => {
+            classes[at] = class_at(types, count, defs, used, classes, at);
+            words::wide(back[at])
+        }
+        Wait::Part(x) => {
+            let next = words::wide(x);
+            back[next] = at as u16;
+            next
+        }
+    }
+}
+
+// The class of entry e, and of those that it waits for.
+fn climb(
+    types: &[u16],
+    count: usize,
+    defs: &[u16],
+    used: usize,
+    classes: &mut [u16],
+    back: &mut [u16],
+    e: usize,
+)
+    requires { ⌜ Place (take used (now defs)) (now types) count (now classes) ⌝ ∗ ⌜ count ≤ length (now back) ⌝ ∗ ⌜ e < count ⌝ ∗ ⌜ Sound (take used (now defs)) (tableOf (now types) count) (now classes) ⌝ }
+    ensures { λ _. ⌜ Climbed (take used (now (defs .entry))) (tableOf (now (types .entry)) count) (now (classes .entry)) (now (classes .exit)) e ⌝ }
+{
+    back[e] = e as u16;
+    let mut at = e;
+    while classes[e] == 0 {
+        at = step(types, count, defs, used, classes, back, at);
+    }
+}
+
+// The class of entry e, where all before it have theirs: it may have it from an earlier climb, and only a name can wait for an entry behind it.
+fn place(
+    types: &[u16],
+    count: usize,
+    defs: &[u16],
+    used: usize,
+    classes: &mut [u16],
+    back: &mut [u16],
+    e: usize,
+)
+    requires { ⌜ Place (take used (now defs)) (now types) count (now classes) ⌝ ∗ ⌜ count ≤ length (now back) ⌝ ∗ ⌜ e < count ⌝ ∗ ⌜ Begun (take used (now defs)) (tableOf (now types) count) (now classes) e ⌝ }
+    ensures { λ _. ⌜ Climbed (take used (now (defs .entry))) (tableOf (now (types .entry)) count) (now (classes .entry)) (now (classes .exit)) e ⌝ }
+{
+    if classes[e] != 0 {
+        return;
+    }
+    let w = words::read_entry(types, e);
+    let kind = w.kind;
+    let a = w.a;
+    let b = w.b;
+    if kind == 9 { // a name
+        climb(types, count, defs, used, classes, back, e);
+        return;
+    }
+    classes[e] = from_parts(kind, a, b, classes);
+}
+
+// The classes of all entries, from entry 0 up. What an entry waits for comes first, so each class is computed once. `back` is scratch, a word for each entry.
+pub fn fill(
+    types: &[u16],
+    count: usize,
+    defs: &[u16],
+    used: usize,
+    classes: &mut [u16],
+    back: &mut [u16],
+)
+    requires { ⌜ Place (take used (now defs)) (now types) count (now classes) ⌝ ∗ ⌜ count ≤ length (now back) ⌝ }
     ensures { λ _. ⌜ Filled (take used (now (defs .entry))) (tableOf (now (types .entry)) count) (now (classes .exit)) ⌝ }
 {
-    let mut passes: usize = 0;
-    while passes < 65 {
-        if !pass(types, count, defs, used, classes) {
-            return;
-        }
-        passes += 1;
+    words::clear(&mut classes[..count]);
+    let mut e = 0;
+    while e < count {
+        place(types, count, defs, used, classes, back, e);
+        e += 1;
     }
 }

@@ -1,13 +1,14 @@
 -- What the sets show is refusal 10's, and 9 and 10 together are `checkTypes`.
 -- Assumes nothing.
 use mathlib.Core.Path.{_≡_, refl, ap, sym, _∙_, subst}
+use mathlib.Core.Bool.{Bool}
 use mathlib.Core.List.{List}
 use mathlib.Core.Option.{Option, none, some}
 use Prim.Native.Nat.{ℕ, _≤_}
 use native.Mathlib.Omega.{arith}
 use lib.ListN.{length, take, getD}
 use lib.Seq.{length-take-le}
-use Rattle.meaning.specs.Base.{_>>=_, refuseAt, lowest}
+use Rattle.meaning.specs.Base.{_>>=_, refuseAt, lowest, lowestFrom}
 use Rattle.meaning.specs.Types.{Table, Defs}
 use Rattle.meaning.specs.Reach.{loops}
 use Rattle.meaning.specs.Checks.{undefinedName, checkTypes}
@@ -22,6 +23,11 @@ use Rattle.guard.specs.Sets.{bitAt, Laid, Filled, Begun, Closed}
 use Rattle.guard.specs.declared.Checked.the-variants.{Sound, Undefined, Circle}
 use Rattle.guard.proofs.Filling.{types-laid}
 use Rattle.guard.proofs.Circles.{lowest-circles}
+
+-- among no definitions there is no circle
+pub circle-none : {used : ℕ} (f : ℕ → Bool) → used ≡ 0 → found Found.Nowhere ≡ lowest f used
+unfolding lowestFrom
+circle-none f q = rw q
 
 module _ {types : List ℕ} {count : ℕ} {defs : List ℕ} {used : ℕ} (g : Given types count defs used) where
   abbrev T : Table

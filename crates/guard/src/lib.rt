@@ -164,6 +164,39 @@ fn circle(
     lowest_circle(used, reach)
 }
 
+// The same with arrays for 256 entries, and for 4,096: clearing them is most of what a small table costs.
+fn circle_of_few(types: &[u16], count: usize, defs: &[u16], used: usize) -> Found
+    requires { ⌜ Given (now types) count (now defs) used ⌝ ∗ ⌜ count ≤ 256 ⌝ }
+    ensures { λ r. ⌜ found r ≡ lowest (loops (take used (now (defs .entry))) (tableOf (now (types .entry)) count)) used ⌝ }
+{
+    let mut masks = [0u64; 256];
+    let mut reach = [0u64; 64];
+    circle(types, count, defs, used, &mut masks, &mut reach)
+}
+
+fn circle_of_many(types: &[u16], count: usize, defs: &[u16], used: usize) -> Found
+    requires { ⌜ Given (now types) count (now defs) used ⌝ ∗ ⌜ count ≤ 4096 ⌝ }
+    ensures { λ r. ⌜ found r ≡ lowest (loops (take used (now (defs .entry))) (tableOf (now (types .entry)) count)) used ⌝ }
+{
+    let mut masks = [0u64; 4096];
+    let mut reach = [0u64; 64];
+    circle(types, count, defs, used, &mut masks, &mut reach)
+}
+
+// The same, with the arrays that the table needs. Without definitions there is no circle.
+fn any_circle(types: &[u16], count: usize, defs: &[u16], used: usize) -> Found
+    requires { ⌜ Given (now types) count (now defs) used ⌝ ∗ ⌜ count ≤ 4096 ⌝ }
+    ensures { λ r. ⌜ found r ≡ lowest (loops (take used (now (defs .entry))) (tableOf (now (types .entry)) count)) used ⌝ }
+{
+    if used == 0 {
+        return Found::Nowhere;
+    }
+    if count <= 256 {
+        return circle_of_few(types, count, defs, used);
+    }
+    circle_of_many(types, count, defs, used)
+}
+
 // What the check of types and definitions answers: no refusal, 9 at an entry, or 10 at a definition.
 pub enum Checked {
     Sound,
@@ -171,33 +204,16 @@ pub enum Checked {
     Circle(usize),
 }
 
-// 9, then 10. `masks` and `reach` as in `circle`.
-fn check_within(
-    types: &[u16],
-    count: usize,
-    defs: &[u16],
-    used: usize,
-    masks: &mut [u64],
-    reach: &mut [u64],
-) -> Checked
-    requires { ⌜ Given (now types) count (now defs) used ⌝ ∗ ⌜ count ≤ length (now masks) ⌝ ∗ ⌜ used ≤ length (now reach) ⌝ }
-    ensures { λ r. ⌜ outcome r ≡ checkTypes (take used (now (defs .entry))) (tableOf (now (types .entry)) count) ⌝ }
-{
-    if let Found::At(e) = undefined_name(types, count, used) {
-        return Checked::Undefined(e);
-    }
-    if let Found::At(d) = circle(types, count, defs, used, masks, reach) {
-        return Checked::Circle(d);
-    }
-    Checked::Sound
-}
-
 // 9, then 10, of at most 4,096 entries.
 pub fn check_types(types: &[u16], count: usize, defs: &[u16], used: usize) -> Checked
     requires { ⌜ Given (now types) count (now defs) used ⌝ ∗ ⌜ count ≤ 4096 ⌝ }
     ensures { λ r. ⌜ outcome r ≡ checkTypes (take used (now (defs .entry))) (tableOf (now (types .entry)) count) ⌝ }
 {
-    let mut masks = [0u64; 4096];
-    let mut reach = [0u64; 64];
-    check_within(types, count, defs, used, &mut masks, &mut reach)
+    if let Found::At(e) = undefined_name(types, count, used) {
+        return Checked::Undefined(e);
+    }
+    if let Found::At(d) = any_circle(types, count, defs, used) {
+        return Checked::Circle(d);
+    }
+    Checked::Sound
 }

@@ -57,7 +57,8 @@ fn settle(types: &mut [u16], query: &mut [u16], nodes: usize, given: Given, made
     }
 }
 
-// The walk from the root, in the scope of the declared variables. Classes, marks and the walk's stack are scratch.
+// The walk from the root, in the scope of the declared variables. Classes, marks and the walk's stack are scratch; filling the classes takes the marks
+// for its ways back.
 fn type_with(
     types: &mut [u16],
     query: &[u16],
@@ -73,7 +74,7 @@ fn type_with(
 {
     let defs = given.defs;
     let vars = given.vars;
-    classes::fill(types, count, &defs, given.used, classes);
+    classes::fill(types, count, &defs, given.used, classes, marks);
     let scope = scope::declared(&vars, given.declared);
     let root = nodes - 1;
     typing::walk(

@@ -113,11 +113,30 @@ fn misuse_within(code: &[u16], nodes: usize, uses: &mut [u16]) -> words::Found
     lowest_misuse(uses, nodes)
 }
 
-// The same, of at most 1,024 nodes.
-pub fn misuse(code: &[u16], nodes: usize) -> words::Found
+// The same with counts for 128 nodes, and for 1,024: clearing them is most of what a small query costs.
+fn misuse_of_few(code: &[u16], nodes: usize) -> words::Found
+    requires { ⌜ Coded (now code) nodes ⌝ ∗ ⌜ nodes ≤ 128 ⌝ }
+    ensures { λ r. ⌜ found r ≡ lowest (misused (codeOf (now (code .entry)) nodes)) (nodes - 1) ⌝ }
+{
+    let mut uses = [0u16; 128];
+    misuse_within(code, nodes, &mut uses)
+}
+
+fn misuse_of_many(code: &[u16], nodes: usize) -> words::Found
     requires { ⌜ Coded (now code) nodes ⌝ }
     ensures { λ r. ⌜ found r ≡ lowest (misused (codeOf (now (code .entry)) nodes)) (nodes - 1) ⌝ }
 {
     let mut uses = [0u16; 1024];
     misuse_within(code, nodes, &mut uses)
+}
+
+// The same, with as many counts as the query needs.
+pub fn misuse(code: &[u16], nodes: usize) -> words::Found
+    requires { ⌜ Coded (now code) nodes ⌝ }
+    ensures { λ r. ⌜ found r ≡ lowest (misused (codeOf (now (code .entry)) nodes)) (nodes - 1) ⌝ }
+{
+    if nodes <= 128 {
+        return misuse_of_few(code, nodes);
+    }
+    misuse_of_many(code, nodes)
 }

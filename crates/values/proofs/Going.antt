@@ -2,7 +2,7 @@
 -- Assumes nothing.
 use mathlib.Core.Path.{_≡_, refl, sym, ap, _∙_, subst}
 use mathlib.Core.List.{List, [], _∷_, _++_, append-nil}
-use Prim.Native.Nat.{ℕ, zero, suc, _+_, _-_, _≤_, _<_}
+use Prim.Native.Nat.{ℕ, zero, suc, _+_, _*_, _-_, _≤_, _<_}
 use native.Mathlib.Omega.{arith}
 use lib.ListN.{length, getD, set, length-set, length-append}
 use lib.Seq.{getD-set-same, getD-set-other}
@@ -16,7 +16,7 @@ use Rattle.values.specs.declared.Due.the-variants as Due
 use Rattle.values.specs.declared.Went.{Went}
 use Rattle.values.specs.declared.Went.the-variants as Went
 use Rattle.values.specs.declared.Line.{Line}
-use Rattle.values.specs.Says.{Shows, Stands, entryAt, wordsOf, Adds, Reads, wrong, reached}
+use Rattle.values.specs.Says.{Shows, Stands, entryAt, wordsOf, Deep, whole, short, Adds, Reads, wrong, reached}
 use Rattle.values.proofs.Standing.{refuses, seen}
 use Rattle.values.proofs.Stepping.{Entered, entered, absurd-out}
 use Rattle.values.proofs.Following.{Run, past, past-none, past-past, follow, rowOf, follow-done, follow-step, follow-one}
@@ -47,11 +47,20 @@ pending-open t d x y h =
     let c : pending (set (set t d x) (d + 1) y) d ≡ pending t d = pending-set (set t d x) d (d + 1) y (omega arith) ∙ pending-set t d d x (omega arith) in
     rw (z, a, b, c) refl
 
+-- A STACK THAT IS DEEP ENOUGH has a word, and stays so
+pub deep-some : {s : List ℕ} {m : ℕ} → Deep s m → 0 < m
+deep-some (whole h) = omega arith
+deep-some (short h) = omega arith
+
+deep-kept : {s : List ℕ} {m k : ℕ} → k ≡ m → Deep s m → Deep s k
+deep-kept {s} q h = subst (Deep s) (sym q) h
+
 -- THE INVARIANT: what was read so far, its words and places; what is pending
 pub record Going (s : List ℕ) (start n room tw first : ℕ) (w : List ℕ) (before : Found) (t u : List ℕ) (d at e : ℕ) (full : Found) : Type 0 where
   pub words : List ℕ
   pub places : List ℕ
-  pub deep : length t ≡ 65536
+  pub deep : Deep s (length t)
+  pub spaced : 4 * e ≤ at + 4 * first
   pub within : at ≤ length s
   pub shallow : first + d ≤ e + 1
   pub counted : e ≡ first + length places
@@ -81,14 +90,15 @@ pending-top t zero h = absurd (omega arith)
 pending-top t (suc d) h = let z : suc d - 1 ≡ d = omega arith in rw z refl
 
 module _ (s : List ℕ) (start n : ℕ) {room tw first : ℕ} {w : List ℕ} {before : Found} where
-  pub going-starts : (t : List ℕ) → length t ≡ 65536 → start ≤ length s → Going s start n room tw first w before (set t 0 n) w 1 start first before
+  pub going-starts : (t : List ℕ) → Deep s (length t) → start ≤ length s → Going s start n room tw first w before (set t 0 n) w 1 start first before
   unfolding pending total
   going-starts t deep low =
-      let z : getD (set t 0 n) 0 0 ≡ n = getD-set-same t 0 n 0 (omega arith) in
+      let z : getD (set t 0 n) 0 0 ≡ n = getD-set-same t 0 n 0 (deep-some deep) in
       record {
         words = [];
         places = [];
-        deep = length-set t 0 n ∙ deep;
+        deep = deep-kept (length-set t 0 n) deep;
+        spaced = omega arith;
         within = low;
         shallow = omega arith;
         counted = omega arith;
@@ -101,6 +111,13 @@ module _ (s : List ℕ) (start n : ℕ) {room tw first : ℕ} {w : List ℕ} {be
     -- each open stretch has a record that opened it
     pub depth-in : d ≤ n + 1
     depth-in = omega (arith, g .shallow, g .rest)
+
+    pub depth-low : n ≤ 65535 → 0 < d → d - 1 < length t
+    depth-low h l = go (g .deep)
+      where
+        go : Deep s (length t) → d - 1 < length t
+        go (whole k) = omega (arith, depth-in)
+        go (short k) = omega (arith, g .shallow, g .spaced, g .within)
 
     -- NOTHING IS PENDING
     pub going-ends : d ≤ 0 → Reads room tw first w before u (readForest n s start n) (Went.To at full)
@@ -123,6 +140,7 @@ module _ (s : List ℕ) (start n : ℕ) {room tw first : ℕ} {w : List ℕ} {be
             words = g .words;
             places = g .places;
             deep = g .deep;
+            spaced = g .spaced;
             within = g .within;
             shallow = omega (arith, g .shallow);
             counted = g .counted;
@@ -141,7 +159,11 @@ module _ (s : List ℕ) (start n : ℕ) {room tw first : ℕ} {w : List ℕ} {be
         not-all = omega (arith, g .rest, ap total now-pending)
 
         pub room-above : n ≤ 65535 → (x : ℕ) → d < length (set t (d - 1) x)
-        room-above h x = omega (arith, g .shallow, g .deep, not-all, length-set t (d - 1) x)
+        room-above h x = go (g .deep)
+          where
+            go : Deep s (length t) → d < length (set t (d - 1) x)
+            go (whole l) = omega (arith, g .shallow, not-all, length-set t (d - 1) x)
+            go (short l) = omega (arith, g .shallow, g .spaced, g .within, length-set t (d - 1) x)
 
         onward : follow s start (n ∷ []) ≡ past (g .words) (g .places) (entryAt s at (left - 1) >>= λ r. past (rowOf r) (at ∷ []) (follow s (r .next) (field r 1 ∷ (left - 1 - field r 1) ∷ pending t (d - 1))))
         onward =
@@ -183,7 +205,8 @@ module _ (s : List ℕ) (start n : ℕ) {room tw first : ℕ} {w : List ℕ} {be
               record {
                 words = g .words ++ wordsOf i;
                 places = g .places ++ (at ∷ []);
-                deep = length-set (set t (d - 1) (left - 1 - i .b)) d (i .b) ∙ length-set t (d - 1) (left - 1 - i .b) ∙ g .deep;
+                deep = deep-kept (length-set (set t (d - 1) (left - 1 - i .b)) d (i .b) ∙ length-set t (d - 1) (left - 1 - i .b)) (g .deep);
+                spaced = omega (arith, g .spaced, line-in .read .past, shows .next);
                 within = omega (arith, line-in .read .within, shows .next);
                 shallow = omega (arith, g .shallow);
                 counted = omega (arith, g .counted, length-append (g .places) (at ∷ []));

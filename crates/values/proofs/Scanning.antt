@@ -79,12 +79,12 @@ unfolding stored
 set-more n ws x h k = let z : suc (length ws) ≡ length ws + 1 = omega arith in set-split (padded n ws) (length ws) x (omega arith) ∙ rw z (stored-behind n ws (x ∷ []) (omega arith))
 
 -- THE INVARIANT
-pub record Scanning (s vars : List ℕ) (declared room tw : ℕ) (stack ends w : List ℕ) (i at entries : ℕ) (found-odd full : Found) : Type 0 where
+pub record Scanning (s vars : List ℕ) (declared room tw m : ℕ) (stack ends w : List ℕ) (i at entries : ℕ) (found-odd full : Found) : Type 0 where
   pub values : List Value
   pub few : i ≤ declared
   pub within : at ≤ length s
   pub small : entries ≤ 65535 * i
-  pub deep : length stack ≡ 65536
+  pub deep : length stack ≡ m
   pub sixteen : length ends ≡ 16
   pub long : length w ≡ tw
   pub many : length values ≡ i
@@ -108,7 +108,7 @@ module _ (s vars : List ℕ) (declared : ℕ) where
 pub sixteen-long : {ends : List ℕ} → ends ≡ zeros 16 → length ends ≡ 16
 sixteen-long e = ap length e ∙ zeros-length 16
 
-pub scan-starts : {s vars : List ℕ} {declared room : ℕ} {stack ends work : List ℕ} → Blank vars declared stack ends work room → Scanning s vars declared room (length work) stack ends work 0 0 0 Found.Nowhere Found.Nowhere
+pub scan-starts : {s vars : List ℕ} {declared room : ℕ} {stack ends work : List ℕ} → Blank s vars declared stack ends work room → Scanning s vars declared room (length work) (length stack) stack ends work 0 0 0 Found.Nowhere Found.Nowhere
 unfolding concatMap joined forestWords odd endsFrom zeros
 scan-starts {s} {vars} {declared} {room} {stack} {ends} {work} b =
     record {
@@ -116,7 +116,7 @@ scan-starts {s} {vars} {declared} {room} {stack} {ends} {work} b =
       few = omega arith;
       within = omega arith;
       small = omega arith;
-      deep = b .deep;
+      deep = refl;
       sixteen = sixteen-long (b .sixteen);
       long = refl;
       many = refl;
@@ -131,8 +131,8 @@ scan-starts {s} {vars} {declared} {room} {stack} {ends} {work} b =
     bind-ok (ok vs) = refl
     bind-ok (refused n p) = refl
 
-module _ {s vars : List ℕ} {declared room tw : ℕ} {stack ends w : List ℕ} {i at entries : ℕ} {found-odd full : Found}
-    (g : Scanning s vars declared room tw stack ends w i at entries found-odd full) where
+module _ {s vars : List ℕ} {declared room tw m : ℕ} {stack ends w : List ℕ} {i at entries : ℕ} {found-odd full : Found}
+    (g : Scanning s vars declared room tw m stack ends w i at entries found-odd full) where
   abbrev all : List (ℕ × Var)
   all = varsOf vars declared
 
@@ -242,7 +242,7 @@ module _ {s vars : List ℕ} {declared room tw : ℕ} {stack ends w : List ℕ} 
             ∙ ap (padded 16) (sym (ends-more 0 (g .values) now))
 
         pub scan-on : declared ≤ 16 → tl ≡ tw → (place : Found) {later : Found} → found place ≡ placeIf bad at → found later ≡ earlierOf (found found-odd) (found place) → {cap : ℕ} → cap ≡ min (entries + n) room
-            → {stack' : List ℕ} → length stack' ≡ length stack → length u ≡ length w → Scanning s vars declared room tw stack' (set ends i cap) u (i + 1) next (entries + n) later over
+            → {stack' : List ℕ} → length stack' ≡ length stack → length u ≡ length w → Scanning s vars declared room tw m stack' (set ends i cap) u (i + 1) next (entries + n) later over
         scan-on most same place {later} qp ql {cap} c {stack'} ls lw =
             let k : Keeping room tw (forestWords (joined (g .values)) ++ forestWords (there .part .forest)) (entryPlaces (g .values) ++ there .part .places) u over =
             subst (λ (m : ℕ). Adds room m entries w full u over (forestWords (there .part .forest)) (there .part .places)) same (there .adds) .adds (forestWords (joined (g .values))) (entryPlaces (g .values)) (sym (g .count)) (g .keeping) in

@@ -23,7 +23,7 @@ use Rattle.values.specs.declared.Verdict.the-variants as Verdict
 use Rattle.values.specs.declared.Answer.the-variants as Answer
 use Rattle.values.specs.declared.Loaded.{Loaded}
 use Rattle.values.specs.Says as Says
-use Rattle.values.specs.Says.{loadedOf, Left, overfull, Blank, Scans, inTurn, verdict, Settles}
+use Rattle.values.specs.Says.{loadedOf, Left, overfull, Deep, Blank, Scans, inTurn, verdict, Settles}
 use Rattle.values.proofs.Stepping.{absurd-out}
 
 -- room for all of them
@@ -105,7 +105,7 @@ module _ (tw : ℕ) {w : List ℕ} (c : w ≡ zeros tw) {room : ℕ} (q : room �
   cleared-long : length w ≡ tw
   cleared-long = ap length c ∙ zeros-length tw
 
-  pub blank : {vars : List ℕ} {declared : ℕ} {stack : List ℕ} → 3 * declared ≤ length vars → declared ≤ 16 → length stack ≡ 65536 → Blank vars declared stack (zeros 16) w room
+  pub blank : {s vars : List ℕ} {declared : ℕ} {stack : List ℕ} → 3 * declared ≤ length vars → declared ≤ 16 → Deep s (length stack) → Blank s vars declared stack (zeros 16) w room
   blank h k l = record { variables = h; few = k; deep = l; sixteen = refl; clear = c ∙ ap zeros (sym cleared-long); long = omega (arith, q); most = omega (arith, q) }
 
   pub loads : (vars : List (ℕ × Var)) (s : List ℕ) {scan : Scan} {ends v u : List ℕ} {r : Loaded} → Scans room (length w) (readValues vars s 0) scan ends v → length v ≡ length w → Settles (length v) scan ends v r u

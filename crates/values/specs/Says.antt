@@ -4,7 +4,7 @@ use mathlib.Core.Path.{_≡_}
 use mathlib.Core.Bool.{Bool, true, false, _&&_, _||_}
 use mathlib.Core.List.{List, [], _∷_, _++_}
 use mathlib.Core.Option.{Option, none, some}
-use Prim.Native.Nat.{ℕ, _+_, _*_, _≤_}
+use Prim.Native.Nat.{ℕ, _+_, _*_, _≤_, _<_}
 use lib.Dec.{leb, eqb}
 use lib.ListN.{length, getD}
 use Rattle.meaning.specs.Base.{Out, ok, refused, _>>=_, require, refuseAt, zeros, padded, lent, forestWidth}
@@ -97,6 +97,12 @@ pub record Keeping (room tw : ℕ) (ws ps w : List ℕ) (full : Found) : Type 0 
 pub record Adds (room tw count : ℕ) (w : List ℕ) (full : Found) (u : List ℕ) (over : Found) (xs qs : List ℕ) : Type 0 where
   pub adds : (ws ps : List ℕ) → length ps ≡ count → Keeping room tw ws ps w full → Keeping room tw (ws ++ xs) (ps ++ qs) u over
 
+-- a stack of m words is deep enough for the open stretches of any forest in the bytes s: a variable has fewer than 65,536 records, and each has 4 bytes or
+-- more
+pub data Deep (s : List ℕ) (m : ℕ) : Type 0 where
+  whole : 65536 ≤ m → Deep s m
+  short : length s + 4 < 4 * m → Deep s m
+
 -- A FOREST AND A VALUE that were read, the entries behind the first so many
 pub data Reads (room tw count : ℕ) (w : List ℕ) (full : Found) (u : List ℕ) (o : Out Part) : Went → Type 0 where
   wrong : {place : ℕ} → o ≡ refused 18 place → Reads room tw count w full u o (Went.Wrong place)
@@ -123,11 +129,11 @@ abbrev pub earlierOf : Option ℕ → Option ℕ → Option ℕ
 earlierOf none o = o
 earlierOf (some place) o = some place
 
--- what is asked before the first: room for the variables, a stack and ends of full length, a work table that is clear
-pub record Blank (vars : List ℕ) (declared : ℕ) (stack ends work : List ℕ) (room : ℕ) : Type 0 where
+-- what is asked before the first: room for the variables, a stack that is deep enough, ends of full length, a work table that is clear
+pub record Blank (s vars : List ℕ) (declared : ℕ) (stack ends work : List ℕ) (room : ℕ) : Type 0 where
   pub variables : 3 * declared ≤ length vars
   pub few : declared ≤ 16
-  pub deep : length stack ≡ 65536
+  pub deep : Deep s (length stack)
   pub sixteen : ends ≡ zeros 16
   pub clear : work ≡ zeros (length work)
   pub long : forestWidth * room ≤ length work

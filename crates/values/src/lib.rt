@@ -8,7 +8,7 @@ ghost use Rattle.meaning.specs.Values.{valueAt, readForest, readValue, readValu
 ghost use Rattle.words.specs.Tables.{varsOf};
 ghost use Rattle.words.specs.Says.{found};
 ghost use Rattle.records.specs.Says.{itemOf, Filled};
-ghost use Rattle.values.specs.Says.{Stands, fitted, isEntry, entryAt, headAt, wordsOf, Adds, Reads, Single, Odd, Gives, placeIf, earlierOf, Blank, Scans, verdict, inTurn, Settles, Left};
+ghost use Rattle.values.specs.Says.{Stands, fitted, isEntry, entryAt, headAt, wordsOf, Adds, Reads, Single, Odd, Gives, placeIf, earlierOf, Deep, Blank, Scans, verdict, inTurn, Settles, Left};
 use records::File;
 use records::Item;
 use records::Rec;
@@ -136,7 +136,7 @@ fn read_forest(
     first: usize,
     before: Found,
 ) -> Went
-    requires { ⌜ start ≤ length (now s) ⌝ ∗ ⌜ length (now stack) ≡ 65536 ⌝ ∗ ⌜ forestWidth * room ≤ length (now work) ⌝ ∗ ⌜ first ≤ 1048576 ⌝ }
+    requires { ⌜ start ≤ length (now s) ⌝ ∗ ⌜ Deep (now s) (length (now stack)) ⌝ ∗ ⌜ forestWidth * room ≤ length (now work) ⌝ ∗ ⌜ first ≤ 1048576 ⌝ }
     ensures { λ r. ⌜ Reads room (length (now (work .entry))) first (now (work .entry)) before (now (work .exit)) (readForest n (now (s .entry)) start n) r ⌝ }
 {
     stack[0] = n;
@@ -215,7 +215,7 @@ fn read_entries(
     first: usize,
     before: Found,
 ) -> Valued
-    requires { ⌜ start ≤ length (now s) ⌝ ∗ ⌜ length (now stack) ≡ 65536 ⌝ ∗ ⌜ forestWidth * room ≤ length (now work) ⌝ ∗ ⌜ first ≤ 1048576 ⌝ }
+    requires { ⌜ start ≤ length (now s) ⌝ ∗ ⌜ Deep (now s) (length (now stack)) ⌝ ∗ ⌜ forestWidth * room ≤ length (now work) ⌝ ∗ ⌜ first ≤ 1048576 ⌝ }
     ensures { λ r. ⌜ Gives kind room (length (now (work .entry))) first (now (work .entry)) before (now (work .exit)) (readForest n (now (s .entry)) start n) r ⌝ }
 {
     match read_forest(s, start, n, stack, work, room, first, before) {
@@ -245,7 +245,7 @@ fn read_value(
     first: usize,
     before: Found,
 ) -> Valued
-    requires { ⌜ at ≤ length (now s) ⌝ ∗ ⌜ length (now stack) ≡ 65536 ⌝ ∗ ⌜ forestWidth * room ≤ length (now work) ⌝ ∗ ⌜ first ≤ 1048576 ⌝ }
+    requires { ⌜ at ≤ length (now s) ⌝ ∗ ⌜ Deep (now s) (length (now stack)) ⌝ ∗ ⌜ forestWidth * room ≤ length (now work) ⌝ ∗ ⌜ first ≤ 1048576 ⌝ }
     ensures { λ r. ⌜ Gives kind room (length (now (work .entry))) first (now (work .entry)) before (now (work .exit)) (readValue v (now (s .entry)) at) r ⌝ }
 {
     match head_at(s, at, v) {
@@ -303,7 +303,7 @@ fn read_values(
     work: &mut [u16],
     room: usize,
 ) -> Scan
-    requires { ⌜ Blank (now vars) declared (now stack) (now ends) (now work) room ⌝ }
+    requires { ⌜ Blank (now s) (now vars) declared (now stack) (now ends) (now work) room ⌝ }
     ensures { λ r. ⌜ Scans room (length (now (work .entry))) (readValues (varsOf (now (vars .entry)) declared) (now (s .entry)) 0) r (now (ends .exit)) (now (work .exit)) ⌝ }
 {
     let mut i: usize = 0;
@@ -405,7 +405,7 @@ fn settle(scan: Scan, ends: [u16; 16], work: &mut [u16]) -> Loaded
 
 // The values into the work table. `stack` is scratch.
 fn load_with(s: &[u8], vars: &[u16], declared: usize, stack: &mut [u16], work: &mut [u16]) -> Loaded
-    requires { ⌜ 3 * declared ≤ length (now vars) ⌝ ∗ ⌜ declared ≤ 16 ⌝ ∗ ⌜ length (now stack) ≡ 65536 ⌝ }
+    requires { ⌜ 3 * declared ≤ length (now vars) ⌝ ∗ ⌜ declared ≤ 16 ⌝ ∗ ⌜ Deep (now s) (length (now stack)) ⌝ }
     ensures { λ r. ⌜ Left (length (now (work .entry))) r (now (work .exit)) (loadValues (workCapacity (length (now (work .entry)))) (varsOf (now (vars .entry)) declared) (now (s .entry))) ⌝ }
 {
     words::clear(work);
@@ -415,12 +415,42 @@ fn load_with(s: &[u8], vars: &[u16], declared: usize, stack: &mut [u16], work: &
     settle(scan, ends, work)
 }
 
+// The same with a stack for files of at most 1,000 bytes, of at most 32,000, and of any: clearing it is most of what a small file costs.
+fn load_short(s: &[u8], vars: &[u16], declared: usize, work: &mut [u16]) -> Loaded
+    requires { ⌜ 3 * declared ≤ length (now vars) ⌝ ∗ ⌜ declared ≤ 16 ⌝ ∗ ⌜ length (now s) ≤ 1000 ⌝ }
+    ensures { λ r. ⌜ Left (length (now (work .entry))) r (now (work .exit)) (loadValues (workCapacity (length (now (work .entry)))) (varsOf (now (vars .entry)) declared) (now (s .entry))) ⌝ }
+{
+    let mut stack = [0u16; 256];
+    load_with(s, vars, declared, &mut stack, work)
+}
+
+fn load_middling(s: &[u8], vars: &[u16], declared: usize, work: &mut [u16]) -> Loaded
+    requires { ⌜ 3 * declared ≤ length (now vars) ⌝ ∗ ⌜ declared ≤ 16 ⌝ ∗ ⌜ length (now s) ≤ 32000 ⌝ }
+    ensures { λ r. ⌜ Left (length (now (work .entry))) r (now (work .exit)) (loadValues (workCapacity (length (now (work .entry)))) (varsOf (now (vars .entry)) declared) (now (s .entry))) ⌝ }
+{
+    let mut stack = [0u16; 8192];
+    load_with(s, vars, declared, &mut stack, work)
+}
+
+fn load_any(s: &[u8], vars: &[u16], declared: usize, work: &mut [u16]) -> Loaded
+    requires { ⌜ 3 * declared ≤ length (now vars) ⌝ ∗ ⌜ declared ≤ 16 ⌝ }
+    ensures { λ r. ⌜ Left (length (now (work .entry))) r (now (work .exit)) (loadValues (workCapacity (length (now (work .entry)))) (varsOf (now (vars .entry)) declared) (now (s .entry))) ⌝ }
+{
+    let mut stack = [0u16; 65536];
+    load_with(s, vars, declared, &mut stack, work)
+}
+
 // Loads a values file into a lent work table: of any bytes, and of any lengths. A refusal leaves every word of it zero. Stretches may nest as deep as
 // a variable has records.
 pub fn load(file: &[u8], vars: &[u16], declared: usize, work: &mut [u16]) -> Loaded
     requires { ⌜ 3 * declared ≤ length (now vars) ⌝ ∗ ⌜ declared ≤ 16 ⌝ }
     ensures { λ r. ⌜ Left (length (now (work .entry))) r (now (work .exit)) (loadValues (workCapacity (length (now (work .entry)))) (varsOf (now (vars .entry)) declared) (now (file .entry))) ⌝ }
 {
-    let mut stack = [0u16; 65536];
-    load_with(file, vars, declared, &mut stack, work)
+    if file.len() <= 1000 {
+        return load_short(file, vars, declared, work);
+    }
+    if file.len() <= 32000 {
+        return load_middling(file, vars, declared, work);
+    }
+    load_any(file, vars, declared, work)
 }

@@ -1,26 +1,28 @@
 -- `values::read_forest` meets its contract: reading what is pending is reading the whole (`Going`); the measure counts each record twice, and the stretches that are open. Assumes nothing.
-use mathlib.Core.Path.{_≡_, refl, sym, _∙_}
+use mathlib.Core.Path.{_≡_, refl, _∙_}
 use Prim.Native.Nat.{_+_, _*_, _-_}
 use native.Mathlib.Omega.{arith}
-use lib.ListN.{length}
+use lib.ListN.{length, set, length-set}
 use borrow.Author.Needs.{needs}
-use Rattle.values.proofs.Going.{Going, depth-in, going-starts, going-down, going-wrong, going-ends, going-on, not-all, room-above, inside-low}
+use Rattle.values.proofs.Going.{Going, deep-some, depth-in, depth-low, going-starts, going-down, going-wrong, going-ends, going-on, not-all, room-above, inside-low}
 use Rattle.values.proofs.read_forest.Statement.{statement}
 use Rattle.values.proofs.read_forest.Tie as tie
 
 abbrev Inv-loop : tie.InvT-loop
-Inv-loop s start n stack₀ work₀ room first depth₀ at₀ e₀ full₀ stack work depth at e full = Going s start n room (length work₀) first work₀ full₀ stack work depth at e full × (length work ≡ length work₀)
+Inv-loop s start n stack₀ work₀ room first depth₀ at₀ e₀ full₀ stack work depth at e full = Going s start n room (length work₀) first work₀ full₀ stack work depth at e full × (length work ≡ length work₀) × (length stack ≡ length stack₀)
 
 abbrev μ-loop : tie.MeasureT-loop
 μ-loop s start n stack₀ work₀ room first depth₀ at₀ e₀ full₀ stack work depth at e full = 2 * (first + n - e) + depth
 
 slice-write-stack : tie.Need-slice-write-stack Inv-loop μ-loop
-slice-write-stack c = search needs
+slice-write-stack c =
+    let start = c .before .before .before in
+    deep-some (start .pre .1 .0)
 
 loop-holds : tie.Need-loop-holds Inv-loop μ-loop
 loop-holds c =
     let start = c .before .before .before in
-    (going-starts _ _ _ (start .args .stack .now) (start .pre .1 .0) (start .pre .0), refl)
+    (going-starts _ _ _ ((start .args) .stack .now) (start .pre .1 .0) (start .pre .0), refl, refl)
 
 sub-left : tie.Need-sub-left Inv-loop μ-loop
 sub-left c = search needs
@@ -34,7 +36,7 @@ slice-read-left : tie.Need-slice-read-left Inv-loop μ-loop
 slice-read-left c =
     let loop = c .before .before .loop in
     let start = c .before .before .before .before .before .before in
-    omega (arith, depth-in _ _ _ (loop .inv .0), (start .fits), (c .before .loop-test .taken), (loop .inv .0 .deep))
+    depth-low _ _ _ ((loop .inv) .0) (omega (arith, (start .fits))) (c .before .loop-test .taken)
 
 sub-depth : tie.Need-sub-depth Inv-loop μ-loop
 sub-depth c = search needs
@@ -46,7 +48,7 @@ loop-again : tie.Need-loop-again Inv-loop μ-loop
 loop-again c =
     let loop-test = c .before .before .loop-test in
     let loop = c .before .before .before .loop in
-    (going-down _ _ _ (loop .inv .0) (loop-test .taken) (c .if1 .taken), (loop .inv .1))
+    (going-down _ _ _ ((loop .inv) .0) (loop-test .taken) (c .if1 .taken), (loop .inv) .1, (loop .inv) .2)
 
 sub-entry-at : tie.Need-sub-entry-at Inv-loop μ-loop
 sub-entry-at c = search needs
@@ -63,7 +65,7 @@ same-length : tie.Need-same-length Inv-loop μ-loop
 same-length c =
     let loop = c .before .before .before .before .before .before .before .loop in
     let start = c .before .before .before .before .before .before .before .before .before .before .before in
-    (loop .inv .0 .deep) ∙ sym (start .pre .1 .0)
+    (loop .inv) .2 ∙ length-set ((start .args) .stack .now) _ _
 
 same-length-2 : tie.Need-same-length-2 Inv-loop μ-loop
 same-length-2 c =
@@ -117,7 +119,7 @@ slice-write-stack-2 c =
     let loop-test = c .before .before .before .before .before .before .before .before .before .before .before .loop-test in
     let loop = c .before .before .before .before .before .before .before .before .before .before .before .before .loop in
     let start = c .before .before .before .before .before .before .before .before .before .before .before .before .before .before .before .before in
-    omega (arith, depth-in _ _ _ (loop .inv .0), (start .fits), (loop-test .taken), (loop .inv .0 .deep))
+    depth-low _ _ _ ((loop .inv) .0) (omega (arith, (start .fits))) (loop-test .taken)
 
 mul-stack-2 : tie.Need-mul-stack-2 Inv-loop μ-loop
 mul-stack-2 c =
@@ -163,12 +165,12 @@ loop-again-2 c =
     let loop-test = c .before .before .before .before .before .before .before .before .before .before .before .loop-test in
     let loop = c .before .before .before .before .before .before .before .before .before .before .before .before .loop in
     let start = c .before .before .before .before .before .before .before .before .before .before .before .before .before .before .before .before in
-    (going-on _ _ _ (loop .inv .0) (loop-test .taken) _ refl (if1 .left) (entry-at .ensures) (x .given .1) (omega (arith, (start .fits))) (loop .inv .1) (keep .ensures), (keep .kept .0) ∙ (loop .inv .1))
+    (going-on _ _ _ ((loop .inv) .0) (loop-test .taken) _ refl (if1 .left) (entry-at .ensures) (x .given .1) (omega (arith, (start .fits))) ((loop .inv) .1) (keep .ensures), (keep .kept .0) ∙ (loop .inv) .1, length-set (set (loop .stack) _ _) _ _ ∙ length-set (loop .stack) _ _ ∙ (loop .inv) .2)
 
 same-length-3 : tie.Need-same-length-3 Inv-loop μ-loop
 same-length-3 c =
     let start = c .before .before .before .before .before in
-    (c .before .loop .inv .0 .deep) ∙ sym (start .pre .1 .0)
+    (c .before .loop .inv) .2 ∙ length-set ((start .args) .stack .now) _ _
 
 same-length-4 : tie.Need-same-length-4 Inv-loop μ-loop
 same-length-4 c = (c .before .loop .inv .1)

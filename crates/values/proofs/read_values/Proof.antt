@@ -1,16 +1,17 @@
 -- `values::read_values` meets its contract: reading the rest of the variables is reading them all (`Scanning`); the measure is how many are left. Assumes nothing.
-use mathlib.Core.Path.{refl, sym, _∙_}
+use mathlib.Core.Path.{refl, sym, subst, _∙_}
 use Prim.Native.Nat.{_-_}
 use native.Mathlib.Omega.{arith}
 use lib.ListN.{length}
 use borrow.Author.Needs.{needs}
+use Rattle.values.specs.Says.{Deep}
 use Rattle.values.proofs.Scanning.{Scanning, sixteen-long, scan-starts, scan-wrong, scan-low, scan-on, scan-ends}
 use Rattle.values.proofs.read_values.Statement.{statement}
 use Rattle.values.proofs.read_values.Tie as tie
 
 abbrev Inv-loop : tie.InvT-loop
 Inv-loop s vars declared stack₀ ends₀ work₀ room i₀ at₀ entries₀ odd₀ full₀ stack ends work i at entries odd full =
-    Scanning s vars declared room (length work₀) stack ends work i at entries odd full
+    Scanning s vars declared room (length work₀) (length stack₀) stack ends work i at entries odd full
 
 abbrev μ-loop : tie.MeasureT-loop
 μ-loop s vars declared stack₀ ends₀ work₀ room i₀ at₀ entries₀ odd₀ full₀ stack ends work i at entries odd full =
@@ -31,7 +32,7 @@ read-value-requires c κs =
     let loop-test = c .before .before .before .loop-test in
     let loop = c .before .before .before .before .loop in
     let start = c .before .before .before .before .before .before .before .before .before .before in
-    ((loop .inv .within), ((loop .inv .deep), (omega (arith, (loop .inv .long), (start .pre .long)), omega (arith, (loop .inv .small), (start .pre .few), (loop-test .taken)))))
+    ((loop .inv .within), (subst (Deep _) (sym (loop .inv .deep)) (start .pre .deep), (omega (arith, (loop .inv .long), (start .pre .long)), omega (arith, (loop .inv .small), (start .pre .few), (loop-test .taken)))))
 
 enum-known-place : tie.Need-enum-known-place Inv-loop μ-loop
 enum-known-place c = search needs
@@ -41,7 +42,7 @@ same-length c =
     let read-value = c .before .before .before .before .before .before .before .read-value in
     let loop = c .before .before .before .before .before .before .before .before .before .before .before .before .loop in
     let start = c .before .before .before .before .before .before .before .before .before .before .before .before .before .before .before .before .before .before in
-    (read-value .kept .1 .1 .1 .1 .0) ∙ (loop .inv .deep) ∙ sym (start .pre .deep)
+    (read-value .kept .1 .1 .1 .1 .0) ∙ (loop .inv .deep)
 
 same-length-2 : tie.Need-same-length-2 Inv-loop μ-loop
 same-length-2 c =
@@ -129,7 +130,7 @@ same-length-4 : tie.Need-same-length-4 Inv-loop μ-loop
 same-length-4 c =
     let loop = c .before .before .loop in
     let start = c .before .before .before .before .before .before .before .before in
-    (loop .inv .deep) ∙ sym (start .pre .deep)
+    (loop .inv .deep)
 
 same-length-5 : tie.Need-same-length-5 Inv-loop μ-loop
 same-length-5 c =
