@@ -1,6 +1,6 @@
 -- What the writer leaves is what answering a job leaves, once the job is typed; and it is read back.
 -- Assumes nothing.
-use mathlib.Core.Path.{_≡_, refl, ap, sym, _∙_}
+use mathlib.Core.Path.{_≡_, refl, ap, _∙_}
 use mathlib.Core.Bool.{Bool, true, false}
 use mathlib.Core.List.{List}
 use Prim.Native.Nat.{ℕ, _-_, _≤_, _<_}
@@ -9,15 +9,12 @@ use lib.Dec.{leb}
 use lib.ListN.{length, take}
 use lib.Seq.{take-at}
 use borrow.Author.Tests.{leb-true, leb-false}
-use Rattle.meaning.specs.Base.{Out, ok, refused, _>>=_, require, zeros, lent, Caps}
+use Rattle.meaning.specs.Base.{Out, ok, refused, _>>=_, require, zeros, Caps}
 use Rattle.meaning.specs.Typing.{Typed, typeJob}
-use Rattle.meaning.specs.Answers.{answerFile, fitted, answerJob, answerBytes, readAnswer}
-use Rattle.meaning.proofs.RoundTrip.{backOf, round-trip}
-use Rattle.words.specs.Tables.{tableOf}
-use Rattle.words.proofs.Tables.{table-length}
+use Rattle.meaning.specs.Answers.{answerFile, fitted, answerJob}
 use Rattle.answers.specs.declared.Written.{Written}
 use Rattle.answers.specs.declared.Written.the-variants.{Bytes}
-use Rattle.answers.specs.Says.{Ready, Left}
+use Rattle.answers.specs.Says.{Left}
 
 -- a file that fits a buffer of so many bytes, or 17
 pub data Fitted (room : ℕ) (file : List ℕ) : Out (List ℕ) → Type 0 where
@@ -41,14 +38,6 @@ written {room} {n} {file} (fits h) l =
     sizes e = cc
 written (short h) l = let e = l .answer in let z : _≡_ {A = ℕ} 0 1 = cc in absurd (omega arith)
 
--- where there is room for its entries, they and the definitions and the result are read back
-pub written-back : {types defs buffer : List ℕ} {count used result room n : ℕ} (caps : Caps) → Ready types count defs used result → count ≤ caps .types
-    → Left room (Bytes n) buffer (fitted room (answerFile (tableOf types count) (take used defs) result))
-    → readAnswer caps (take n buffer) ≡ ok (backOf (tableOf types count) (take used defs) result)
-written-back {types} {defs} {count = count} {used = used} {result = result} {room = room} caps r h l =
-    ap (readAnswer caps) (written (fitted-is room _) l)
-    ∙ round-trip caps (r .formed) result (omega (arith, r .low, table-length types count)) (omega (arith, table-length types count))
-
 -- A TYPED JOB is answered by its file
 abbrev pub fileOf : Typed → List ℕ
 fileOf t = answerFile (t .left .types) (t .job .defs) (t .result)
@@ -57,10 +46,3 @@ module _ (caps : Caps) (s : List ℕ) (t : Typed) (typed : typeJob caps s ≡ ok
   pub job-answered : answerJob caps room s ≡ (fitted room (fileOf t) >>= λ f. ok (record { typed = t; file = f }))
   unfolding answerJob
   job-answered = rw typed
-
-  pub job-bytes : {r : Written} {buffer : List ℕ} → Left room r buffer (fitted room (fileOf t)) → buffer ≡ answerBytes room (answerJob caps room s)
-  job-bytes l = l .bytes ∙ sym (ap (answerBytes room) job-answered ∙ go (fitted-is room (fileOf t)))
-    where
-      go : {o : Out (List ℕ)} → Fitted room (fileOf t) o → answerBytes room (o >>= λ f. ok (record { typed = t; file = f })) ≡ lent room (λ (f : List ℕ). f) o
-      go (fits h) = refl
-      go (short h) = refl

@@ -4,18 +4,17 @@ use mathlib.Core.Path.{_≡_, refl, ap, ap₂, sym, subst, _∙_}
 use mathlib.Core.Bool.{Bool, true, false}
 use mathlib.Core.List.{List}
 use mathlib.Core.Option.{Option, none, some}
-use Prim.Native.Nat.{ℕ, _-_, _≤_}
-use native.Mathlib.Omega.{arith}
+use Prim.Native.Nat.{ℕ, _-_}
 use lib.ListN.{length, take}
 use lib.Seq.{take-at}
 use Rattle.meaning.specs.Base.{Out, ok, refused, _>>=_, require, given, otherwise, isSome, padded, zeros, capsOf}
-use Rattle.meaning.specs.Types.{Table, Defs, tableWords}
+use Rattle.meaning.specs.Types.{tableWords}
 use Rattle.meaning.specs.Records as Records
 use Rattle.meaning.specs.Records.{Tables, readRecords}
 use Rattle.meaning.specs.Checks.{checkTypes}
 use Rattle.meaning.specs.Typing.{readTypes}
 use Rattle.meaning.specs.Answers as Answers
-use Rattle.meaning.specs.Answers.{backTables, readAnswer}
+use Rattle.meaning.specs.Answers.{readAnswer}
 use Rattle.meaning.proofs.Ends.{Ends, ends-ok}
 use Rattle.meaning.proofs.Reading.{Through, capsOf-small, reads}
 use Rattle.words.specs.Tables.{tableOf}
@@ -24,10 +23,9 @@ use Rattle.reading.specs.declared.Given.{Given}
 use Rattle.reading.specs.declared.Read.{Read}
 use Rattle.reading.specs.declared.Reading.the-variants as Reading
 use Rattle.reading.specs.Says as Reads
-use Rattle.reading.specs.Says.{givenOf}
 use Rattle.reading.proofs.Leaving.{Finished, answer-done, answer-ended, answer-refused}
 use Rattle.checks.proofs.Answering.{ready-given, ready-few}
-use Rattle.jobs.proofs.Checking.{held-ready, held-stored}
+use Rattle.jobs.proofs.Checking.{held-ready}
 use Rattle.back.specs.declared.Answer.the-variants.{Accepted, Refused}
 use Rattle.back.specs.declared.Back.{Back}
 use Rattle.back.specs.Says.{backOf, Ready, judged, ending, Left, Holds, Settled}

@@ -48,24 +48,9 @@ many-allowing false false = refl
 pub of-code : {x : ℕ} (p : Class) → x ≡ codeOf p → classOf x ≡ p
 of-code p h = ap classOf h ∙ class-code p
 
-pub code-one : (q : Class) → codeOf q ≡ 1 → q ≡ one
-unfolding classOf allowing
-code-one q p = sym (of-code q (sym p))
-
-pub code-maybe : (q : Class) → codeOf q ≡ 2 → q ≡ maybe
-unfolding classOf allowing
-code-maybe q p = sym (of-code q (sym p))
-
 pub code-more : (q : Class) → codeOf q ≡ 3 → q ≡ more
 unfolding classOf allowing
 code-more q p = sym (of-code q (sym p))
-
-pub code-any : (q : Class) → codeOf q ≢ 1 → codeOf q ≢ 2 → codeOf q ≢ 3 → q ≡ any
-unfolding codeOf
-code-any one a b c = absurd (a refl)
-code-any maybe a b c = absurd (b refl)
-code-any more a b c = absurd (c refl)
-code-any any a b c = refl
 
 comma-code : {x y : ℕ} (p q : Class) → x ≡ codeOf p → y ≡ codeOf q → codeOf (comma (classOf x) (classOf y)) ≡ codeOf (comma p q)
 comma-code p q h g = rw (of-code p h, of-code q g)

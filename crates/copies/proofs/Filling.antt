@@ -6,7 +6,7 @@ use Prim.Native.Nat.{ℕ, _+_, _*_, _-_, _/_, _≤_, _<_}
 use native.Mathlib.Omega.{arith}
 use lib.ListN.{length, take, drop, length-append}
 use lib.Seq.{take-at, drop-at}
-use Rattle.meaning.specs.Base.{zeros, padded}
+use Rattle.meaning.specs.Base.{zeros}
 use Rattle.meaning.specs.Forests.{Forest, end, join, size, forestWords}
 use Rattle.meaning.proofs.Forests.{size-join, words-join, length-words, words-determine}
 use Rattle.words.specs.Tables.{stored}
@@ -104,7 +104,3 @@ module _ {room k : ℕ} {us : List ℕ} {f : Forest} (h : Filled room us k f) wh
 
   pub behind-full : (ws : List ℕ) {n m : ℕ} {g : Forest} {vs : List ℕ} {r : Made} → r ≡ Made.Full m → Copied (length (take (length us - 3 * k) (drop (3 * k) us))) vs n r g → Copied room ws n r (join f g)
   behind-full ws {n} {m} {g} e c = let d = copied-full e c in full-is e (d .0) (omega (arith, d .1, behind-length, size-join f g, h .count))
-
--- in a lent table: the forest's words, and zeros up to its end
-pub filled-padded : {room k : ℕ} {us : List ℕ} {f : Forest} → Filled room us k f → us ≡ padded room (forestWords f)
-filled-padded {room} {f = f} h = h .laid ∙ ap (λ (n : ℕ). forestWords f ++ zeros (room - n)) (sym (filled-words h))

@@ -6,7 +6,7 @@ use Prim.Native.Nat.{ℕ, zero, suc, _+_, _-_, _≤_}
 use native.Mathlib.Nat.{sub-zero, zero-sub, suc-sub-suc}
 use native.Mathlib.Omega.{arith}
 use lib.ListN.{length, take, drop, length-append, length-drop, drop-of-length-le, replicate-append-replicate}
-use lib.Seq.{take-all, drop-at, length-take-le}
+use lib.Seq.{take-all, length-take-le}
 use Rattle.meaning.specs.Base.{zeros}
 use Rattle.words.proofs.Rows.{zeros-length}
 
@@ -31,9 +31,6 @@ pub back : (a : ℕ) (xs ys : List ℕ) → take a xs ++ (ys ++ drop (length xs 
 back a xs ys =
     ap (λ (l : List ℕ). take a xs ++ (ys ++ l)) (drop-of-length-le (drop a xs) {i = length xs - a} (omega (arith, length-drop a xs)))
     ∙ ap (λ (l : List ℕ). take a xs ++ l) (append-nil ys)
-
-pub back-drop : (a : ℕ) (xs ys : List ℕ) → a ≤ length xs → drop a (take a xs ++ (ys ++ drop (length xs - a) (drop a xs))) ≡ ys
-back-drop a xs ys h = ap (λ (l : List ℕ). drop a l) (back a xs ys) ∙ drop-at (take a xs) ys a (length-take-le a xs h)
 
 pub back-length : (a : ℕ) (xs ys : List ℕ) → a ≤ length xs → length ys ≡ length (take (length xs - a) (drop a xs)) → length (take a xs ++ (ys ++ drop (length xs - a) (drop a xs))) ≡ length xs
 back-length a xs ys h e = ap length (back a xs ys) ∙ length-append (take a xs) ys ∙ omega (arith, e, ap length (lent a xs), length-drop a xs, length-take-le a xs h)

@@ -7,9 +7,9 @@ use native.Mathlib.Nat.{le-refl}
 use lib.ListN.{take}
 use Rattle.meaning.specs.Base.{Out, ok, _>>=_, capsOf, workCapacity}
 use Rattle.meaning.specs.Forests.{size}
-use Rattle.meaning.specs.Typing.{Typed, typeJob, root}
+use Rattle.meaning.specs.Typing.{Typed, root}
 use Rattle.meaning.specs.Values.{loadValues, joined}
-use Rattle.meaning.specs.Running.{Ran, eval, envOf, runJob}
+use Rattle.meaning.specs.Running.{eval, envOf, runJob}
 use Rattle.meaning.proofs.Reading.{capsOf-small}
 use Rattle.meaning.proofs.Jobs.{prefix-typing}
 

@@ -2,21 +2,18 @@
 -- Assumes nothing.
 use mathlib.Core.Path.{_≡_, refl, ap, sym, subst, _∙_}
 use mathlib.Core.List.{List}
-use Prim.Native.Nat.{ℕ, _+_, _*_, _/_, _%_, _≤_, _<_}
+use Prim.Native.Nat.{ℕ, _/_, _%_, _<_}
 use native.Mathlib.Omega.{arith}
 use lib.ListN.{length}
 use Rattle.meaning.specs.Base.{Out, ok, refused, _>>=_, capsOf}
 use Rattle.meaning.specs.Typing as Typing
-use Rattle.meaning.specs.Typing.{typeJob}
 use Rattle.meaning.specs.Answers as Answers
-use Rattle.meaning.specs.Answers.{answerFile, fitted, answerJob, answerBytes, full, packed}
+use Rattle.meaning.specs.Answers.{answerJob, full, packed}
 use Rattle.meaning.proofs.Ends.{Ends, gives, stops, ends-by, ends-bind}
 use Rattle.meaning.proofs.Jobs.{Listed, TypedWell, type-refuses}
 use Rattle.meaning.proofs.Reading.{Small, capsOf-small}
 use Rattle.meaning.proofs.FileLength.{file-short}
 use Rattle.answers.proofs.Back.{Fitted, fits, short, fitted-is, fileOf}
-use Rattle.answered.specs.declared.Answer.{Answer}
-use Rattle.answered.specs.declared.Answer.the-variants.{Accepted, Refused}
 use Rattle.answered.specs.declared.Answered.{Answered}
 use Rattle.answered.specs.Says.{answeredOf}
 use Rattle.emberstitch.specs.Promises as Promises

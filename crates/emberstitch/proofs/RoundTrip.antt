@@ -12,7 +12,7 @@ use Rattle.meaning.specs.Types.{Table, entryWords, tableWords}
 use Rattle.meaning.specs.Typing as Typing
 use Rattle.meaning.specs.Typing.{typeJob, readTypes}
 use Rattle.meaning.specs.Answers as Answers
-use Rattle.meaning.specs.Answers.{answerFile, fitted, answerJob, typeRecord, backTables, readAnswer}
+use Rattle.meaning.specs.Answers.{answerJob, typeRecord, backTables, readAnswer}
 use Rattle.meaning.proofs.Reading.{capsOf-small}
 use Rattle.meaning.proofs.RoundTrip as Laws
 use Rattle.meaning.proofs.RoundTrip.{typed-back, typed-no-room}

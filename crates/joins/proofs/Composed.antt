@@ -1,7 +1,7 @@
 -- The walk of a query from the walks of its parts, as rules on the type table.
 -- Assumes nothing.
-use mathlib.Core.Path.{_≡_, refl, ap, sym, _∙_}
-use mathlib.Core.List.{List, _∷_}
+use mathlib.Core.Path.{_≡_, refl}
+use mathlib.Core.List.{_∷_}
 use Prim.Native.Nat.{ℕ}
 use Rattle.meaning.specs.Base as Base
 use Rattle.meaning.specs.Base.{Out, ok, refused}

@@ -1,20 +1,20 @@
 -- A step of the walk grows the table, so that the types of the variables in scope stay among its entries.
 -- Assumes nothing.
-use mathlib.Core.Path.{_≡_, refl, ap, sym, _∙_, subst}
+use mathlib.Core.Path.{_≡_, ap, sym, _∙_, subst}
 use mathlib.Core.List.{List}
-use mathlib.Core.Option.{none, some}
+use mathlib.Core.Option.{some}
 use Prim.Native.Nat.{ℕ, _≤_, _<_}
 use native.Mathlib.Omega.{arith}
 use native.Mathlib.Decide.{ℕ-discrete, decLt}
 use lib.ListN.{length, getD, set, length-set}
 use lib.Seq.{getD-set-same, getD-set-other}
-use Rattle.meaning.specs.Base.{Out, ok, refused, find, typeCapacity}
+use Rattle.meaning.specs.Base.{Out, typeCapacity}
 use Rattle.meaning.specs.Types.{Table, Defs}
 use Rattle.meaning.specs.Records as Records
 use Rattle.meaning.specs.Records.{typeIn}
-use Rattle.meaning.specs.Queries.{Query, queryAt}
+use Rattle.meaning.specs.Queries.{Query}
 use Rattle.meaning.specs.Typing as Typing
-use Rattle.meaning.specs.Typing.{State, typeOf}
+use Rattle.meaning.specs.Typing.{State}
 use Rattle.meaning.proofs.Lists.{absurd-option}
 use Rattle.meaning.proofs.Ends.{Ends, gives, stops}
 use Rattle.meaning.proofs.Nodes.{InQuery}
@@ -24,10 +24,9 @@ use Rattle.words.specs.Tables.{tableOf}
 use Rattle.words.proofs.Tables.{table-length}
 use Rattle.scope.specs.declared.Scope.{Scope}
 use Rattle.scope.specs.declared.Var.{Var}
-use Rattle.scope.specs.Shows.{Shows, slotVar, slotOf, varOf, bound}
+use Rattle.scope.specs.Shows.{slotVar, slotOf, varOf, bound}
 use Rattle.scope.proofs.Slots.{slot-says}
 use Rattle.conds.proofs.Told.{shown, shows-shown, shown-none}
-use Rattle.grow.specs.Grow.{Ready, Left}
 use Rattle.grow.specs.declared.Made.the-variants as Made
 use Rattle.grow.proofs.Steps.{made, kept-count}
 use Rattle.leaves.specs.declared.Walked.{Walked}

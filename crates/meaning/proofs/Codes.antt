@@ -136,9 +136,6 @@ module _ (code : List Node) (low : (n : ℕ) (x : Node) → At code n x → Node
       (λ n m below. rw (cond-law n m, query-law n m) (expand-nodes Inside (λ i. condAt code i) (λ i. queryAt code i) m (λ i j. below i j .0) (λ i j. below i j .1) (low-at n m)))
       (length code) n h h
 
-  pub cond-nodes : (n : ℕ) → n < length code → InCond (λ i. i < length code) (condAt code n)
-  cond-nodes n h = both-nodes n h .0
-
   pub query-nodes : (n : ℕ) → n < length code → InQuery (λ i. i < length code) (queryAt code n)
   query-nodes n h = both-nodes n h .1
 

@@ -39,11 +39,6 @@ pub ends-by : {A : Type 0} {P : A → Type 0} {R S : ℕ → ℕ → Type 0} {m 
 ends-by (gives h) k = gives h
 ends-by (stops r) k = stops (k _ _ r)
 
--- two facts about one answer
-pub ends-both : {A : Type 0} {P Q : A → Type 0} {R S : ℕ → ℕ → Type 0} {m : Out A} → Ends P R m → Ends Q S m → Ends (λ a. P a × Q a) (λ n p. R n p × S n p) m
-ends-both (gives h) (gives k) = gives (h, k)
-ends-both (stops r) (stops s) = stops (r, s)
-
 -- two facts about one answer, of which only the second speaks of refusals
 pub ends-and : {A : Type 0} {P Q : A → Type 0} {R S : ℕ → ℕ → Type 0} {m : Out A} → Ends P R m → Ends Q S m → Ends (λ a. P a × Q a) S m
 ends-and (gives h) (gives k) = gives (h, k)
@@ -60,9 +55,6 @@ ends-anyhow (refused n p) = stops tt
 
 pub ends-ok : {A : Type 0} {P : A → Type 0} {R : ℕ → ℕ → Type 0} {a : A} → Ends P R (ok a) → P a
 ends-ok (gives h) = h
-
-pub ends-refused : {A : Type 0} {P : A → Type 0} {R : ℕ → ℕ → Type 0} {n p : ℕ} → Ends {A = A} P R (refused n p) → R n p
-ends-refused (stops r) = r
 
 pub ends-require : {R : ℕ → ℕ → Type 0} (b : Bool) (n p : ℕ) → R n p → Ends (λ _. b ≡ true) R (require b n p)
 ends-require true n p r = gives refl

@@ -1,12 +1,12 @@
 -- What the one table of records says of a known kind: its row as a relation, the lengths and kinds of each section, and what it means that fields fit.
 -- Assumes nothing.
 use mathlib.Core.Path.{_≡_, refl}
-use mathlib.Core.Bool.{Bool, true, false, not, _&&_, _||_}
+use mathlib.Core.Bool.{Bool, true, false, not, _&&_}
 use mathlib.Core.List.{List, [], _∷_}
 use mathlib.Core.Option.{Option, none, some}
 use Prim.Native.Nat.{ℕ, _≤_, _<_}
 use borrow.Author.Tests.{leb-true, ltb-true, not-true}
-use lib.Dec.{leb, ltb, eqb}
+use lib.Dec.{leb, ltb}
 use lib.ListN.{length}
 use Rattle.meaning.specs.Base.{find}
 use Rattle.meaning.specs.Kinds
@@ -85,22 +85,6 @@ unfolding forms sized
 form-length k {f} e =
     let both = both-true (leb (shortest (f .section)) (lengthOf f)) (leb (lengthOf f) (longest (f .section))) (find-row k f (test-rows sized forms refl) e) in
     (leb-true _ _ (both .0), leb-true _ _ (both .1))
-
--- KINDS: those of a section
-abbrev pub isQuery : ℕ → Bool
-isQuery k = leb Kinds.query·empty k && leb k Kinds.query·when
-
-abbrev pub kindIn : Section → ℕ → Bool
-kindIn types k = leb Kinds.type·element k && leb k Kinds.type·name
-kindIn definitions k = eqb k Kinds.record·definition
-kindIn variables k = eqb k Kinds.record·tree || eqb k Kinds.record·forest
-kindIn query k = isQuery k || isCondition k
-kindIn result k = eqb k Kinds.record·result
-kindIn value k = leb Kinds.forest·text k && leb k Kinds.value·variable
-
-pub form-kind : (k : ℕ) {f : Form} → find k forms ≡ some f → kindIn (f .section) k ≡ true
-unfolding forms
-form-kind k {f} e = find-row k f (test-rows (λ (k : ℕ) (f : Form). kindIn (f .section) k) forms refl) e
 
 -- the form of a kind in a file is its form, of a section that the file has
 pub own-form : (file : File) (o : Option Form) (f : Form) → ownForm file o ≡ some f → (o ≡ some f) × (hasSection file (f .section) ≡ true)

@@ -9,12 +9,12 @@ use Prim.Native.Nat.{ℕ, zero, suc, _+_, _*_, _≤_, _<_}
 use native.Mathlib.Omega.{arith}
 use native.Mathlib.Decide.{decLe}
 use borrow.Author.Tests.{le-leb, leb-true, lt-ltb}
-use lib.Dec.{leb, ltb, eqb}
-use lib.ListN.{length, getD, take, length-take}
+use lib.Dec.{leb, eqb}
+use lib.ListN.{length, take, length-take}
 use lib.Seq.{getD-take, take-all}
 use Rattle.meaning.specs.Base.{Out, ok, refused, _>>=_, require, given, find, word, Caps}
 use Rattle.meaning.specs.Records as Records
-use Rattle.meaning.specs.Records.{Section, Sort, Form, forms, File, hasSection, ownForm, formIn, Record, fieldsAt, lengthOf, recordAt, Tables, readRecord, readFrom, readRecords, fresh}
+use Rattle.meaning.specs.Records.{Section, Sort, Form, forms, File, hasSection, formIn, Record, fieldsAt, lengthOf, recordAt, Tables, readRecord, readFrom, readRecords, fresh}
 use Rattle.meaning.specs.Checks.{checkJob, readJob}
 use Rattle.meaning.proofs.Ends.{Ends, gives, stops}
 use Rattle.meaning.proofs.Grammar.{form-length, longest, own-form}

@@ -267,15 +267,6 @@ path-reached enter D T e i l (step {i = j} p a s) h =
 pub reached-path : (enter : Bool) (D : Defs) (T : Table) (e i : ℕ) → e < length T → Marked (reached enter D T e) i → Path enter D T e i
 reached-path enter D T e i l m = reached-least enter D T e l (Path enter D T e) (λ j x k p s. step p (at-is T j Types.empty k) s) here i m
 
--- a mark is an entry's
-pub marked-low : (enter : Bool) (D : Defs) (T : Table) (e i : ℕ) → e < length T → Marked (reached enter D T e) i → i < length T
-marked-low enter D T e i l m = omega (arith, getD-low (reached enter D T e) i m, reached-length enter D T e l)
-  where
-    getD-low : (m : List Bool) (i : ℕ) → Marked m i → i < length m
-    getD-low [] i h = never h
-    getD-low (b ∷ m) zero h = omega arith
-    getD-low (b ∷ m) (suc i) h = omega (arith, getD-low m i h)
-
 -- REFUSAL 10
 names-is : (d : ℕ) (x : Entry) → names d (nameOf x) ≡ true → x ≡ Types.name d
 unfolding nameOf

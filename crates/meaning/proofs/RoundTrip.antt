@@ -26,7 +26,7 @@ use Rattle.meaning.proofs.Lists.{at-append, at-last, at-getD, at-is, co
 use Rattle.meaning.proofs.Ends.{Ends, gives, Anyhow, ends-ok, ends-bind, ends-by, ends-require}
 use Rattle.meaning.proofs.Searches.{none-lowest}
 use Rattle.meaning.proofs.Guard.{guarded-unlooped}
-use Rattle.meaning.proofs.Reading.{Small, reads-nothing}
+use Rattle.meaning.proofs.Reading.{Small}
 use Rattle.meaning.proofs.FileLength.{record-length}
 use Rattle.meaning.proofs.Written.{record-back}
 use Rattle.meaning.proofs.Jobs.{TypedWell, type-refuses}
@@ -242,11 +242,6 @@ module _ (caps : Caps) where
         = subst (λ (w : Table). On [] (concatMap typeRecord w ++ last) fresh (refused 5 (length (concatMap typeRecord (take n u))))) (sym parts)
         (full-at (take n u) (drop (suc n) u) (at u n) last (begins ∙ ap (base ++_) parts) (omega (arith, length-take n u, length-drop 2 T))) in
         rw (le-leb 2 (caps .types) two, full .comes (length (answerFile T D e)) (omega arith))
-
--- UNDER CAPACITY 2 no file is read: 5 at 0
-pub no-table : (caps : Caps) (s : List ℕ) → caps .types < 2 → readAnswer caps s ≡ refused 5 0
-unfolding readAnswer
-no-table caps s h = rw (reads-nothing caps answer s h)
 
 -- A TYPED JOB'S answer, read back at any capacities: the table that typing left, the job's definitions and the result
 module _ {caps : Caps} (small : Small caps) (s : List ℕ) (r : Typed) (is : typeJob caps s ≡ ok r) (again : Caps) where

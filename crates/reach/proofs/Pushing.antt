@@ -3,14 +3,14 @@
 use mathlib.Core.Path.{_≡_, refl, sym, ap, subst, _∙_}
 use mathlib.Core.Logic.{_⊎_, inl, inr}
 use mathlib.Core.List.{List, [], _∷_}
-use Prim.Native.Nat.{ℕ, suc, _+_, _*_, _≤_, _<_}
+use Prim.Native.Nat.{ℕ, _+_, _≤_, _<_}
 use native.Mathlib.Omega.{arith}
 use native.Mathlib.Decide.{ℕ-discrete, decLt}
-use lib.ListN.{length, getD, set, length-set}
+use lib.ListN.{getD, set, length-set}
 use lib.Seq.{getD-set-same, getD-set-other}
 use Rattle.meaning.specs.Base.{In, first, later}
 use Rattle.meaning.proofs.Lists.{in-cons, in-none}
-use Rattle.reach.specs.Marks.{blank, Seen, Listed, Room, Grew}
+use Rattle.reach.specs.Marks.{Seen, Listed, Room, Grew}
 use Rattle.reach.proofs.Marks.{blank-above, blank-less, blank-some}
 
 pub grew-none : (count left : ℕ) (ms : List ℕ) → Grew count ms ms left left []

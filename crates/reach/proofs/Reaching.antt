@@ -5,7 +5,7 @@ use mathlib.Core.Path.{_≡_, refl, sym, ap, subst, _∙_}
 use mathlib.Core.Logic.{_⊎_, inl, inr}
 use mathlib.Core.Bool.{Bool, true, false}
 use mathlib.Core.List.{List, [], _∷_, _++_}
-use Prim.Native.Nat.{ℕ, zero, suc, _+_, _*_, _-_, _≤_, _<_}
+use Prim.Native.Nat.{ℕ, suc, _+_, _*_, _-_, _≤_, _<_}
 use native.Mathlib.Omega.{arith}
 use native.Mathlib.Decide.{ℕ-discrete, decLt}
 use lib.ListN.{length, getD, take, drop, getD-replicate, List·getD-append}
@@ -13,7 +13,6 @@ use lib.Seq.{length-take-le, length-front, ext-getD}
 use Rattle.meaning.specs.Base.{In, first, zeros}
 use Rattle.meaning.specs.Types.{Table, Defs, entryOf, at}
 use Rattle.meaning.specs.Reach.{stepsOf, reached}
-use Rattle.meaning.proofs.Lists.{never}
 use Rattle.meaning.proofs.Reach as Reach
 use Rattle.words.specs.Tables.{tableOf}
 use Rattle.words.proofs.Rows.{zeros-length}

@@ -5,14 +5,12 @@ use mathlib.Core.List.{List, [], _∷_, _++_, append-assoc}
 use Prim.Native.Nat.{ℕ, zero, suc, _-_, _≤_, _<_}
 use native.Mathlib.Omega.{arith}
 use lib.ListN.{length, getD, take, set, replicate, length-append}
-use lib.Seq.{take-suc, take-length, take-at, set-append-seam}
-use Rattle.meaning.specs.Base.{ok, zeros, padded, concatMap}
+use lib.Seq.{take-suc, take-length, set-append-seam}
+use Rattle.meaning.specs.Base.{zeros, padded, concatMap}
 use Rattle.meaning.specs.Records.{Var, tree, forest, varOf, Tables}
-use Rattle.words.specs.Tables.{varIn, tableOf, codeOf, varsOf}
-use Rattle.words.proofs.Tables.{table-lent, code-lent}
+use Rattle.words.specs.Tables.{varIn, varsOf}
 use Rattle.words.proofs.Rows.{lent-at, lent-first}
-use Rattle.reading.specs.declared.Read.{Read}
-use Rattle.reading.specs.Says.{kindOfVar, varWords, readOf, Left}
+use Rattle.reading.specs.Says.{kindOfVar, varWords}
 
 pub var-wide : (x : ℕ × Var) → length (varWords x) ≡ 3
 var-wide x = refl
@@ -49,20 +47,3 @@ def-more n D x h =
     (set-append-seam D 0 (zeros (n - length D - 1)) x
     ∙ sym (append-assoc D (x ∷ []) (zeros (n - length D - 1)))
     ∙ ap (λ (k : ℕ). (D ++ (x ∷ [])) ++ zeros k) {x = n - length D - 1} {y = n - length (D ++ (x ∷ []))} (omega (arith, length-append D (x ∷ []))))
-
--- WHAT READING GIVES BESIDE ITS ANSWER decodes to the definitions and the variables that were read
-pub given-defs : (t : Tables) → take (readOf (ok t) .given .used) (readOf (ok t) .given .defs) ≡ t .defs
-unfolding readOf
-given-defs t = take-at (t .defs) (zeros (64 - length (t .defs))) (length (t .defs)) refl
-
-pub given-vars : (t : Tables) → varsOf (readOf (ok t) .given .vars) (readOf (ok t) .given .declared) ≡ t .vars
-unfolding readOf
-given-vars t = vars-lent 48 (t .vars)
-
--- THE LENT TABLES that reading leaves decode to the entries and the nodes that were read
-module _ {tw cw : ℕ} {r : Read} {u w : List ℕ} {t : Tables} (h : Left tw cw r u w (ok t)) where
-  pub left-types : tableOf u (length (t .types)) ≡ t .types
-  left-types = rw (h .types) (table-lent tw (t .types))
-
-  pub left-code : codeOf w (length (t .code)) ≡ t .code
-  left-code = rw (h .code) (code-lent cw (t .code))

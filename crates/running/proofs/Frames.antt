@@ -64,10 +64,6 @@ module _ (st : List ℕ) (i : ℕ) (f : Frame) (h : 6 * i + 6 ≤ length st) whe
   unfolding half-way lower
   half-long = stored-length st lower (3 * (2 * i)) (omega arith)
 
-  pub framed-length : length (framed st i f) ≡ length st
-  unfolding framed half-way lower upper
-  framed-length = stored-length half-way upper (3 * (2 * i + 1)) (omega (arith, half-long)) ∙ half-long
-
   low-word : (j n : ℕ) → j < 3 → n ≡ 3 * (2 * i) + j → getD (framed st i f) n 0 ≡ getD lower j 0
   unfolding framed half-way lower upper
   low-word j n l e = stored-before half-way upper (3 * (2 * i + 1)) n (omega (arith, half-long)) (omega arith) ∙ ap (λ (x : ℕ). getD half-way x 0) e ∙ stored-in st lower (3 * (2 * i)) j (omega arith) l

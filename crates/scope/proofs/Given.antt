@@ -1,28 +1,27 @@
 -- The scope of the declared variables, bound from the last to the first.
 -- Assumes nothing.
-use mathlib.Core.Path.{_≡_, refl, sym, ap, _∙_, subst}
+use mathlib.Core.Path.{_≡_, refl, sym, subst}
 use mathlib.Core.Bool.{Bool, true, false}
-use mathlib.Core.List.{List, [], _∷_}
-use mathlib.Core.Option.{none, some}
+use mathlib.Core.List.{List}
+use mathlib.Core.Option.{some}
 use Prim.Native.Nat.{ℕ, suc, _+_, _*_, _-_, _≤_, _<_}
 use native.Mathlib.Omega.{arith}
 use native.Mathlib.Numerals.{add-one}
 use lib.Dec.{eqb}
-use lib.ListN.{length, getD, drop, set, replicate, length-set, drop-of-length-le, getD-replicate}
+use lib.ListN.{length, getD, drop, replicate, length-set, drop-of-length-le, getD-replicate}
 use lib.Seq.{drop-cons}
 use Rattle.meaning.specs.Base.{At, find}
 use Rattle.meaning.specs.Kinds.{record·tree}
 use Rattle.meaning.specs.Records as Records
 use Rattle.meaning.specs.Records.{typeIn}
 use Rattle.meaning.specs.Formed.{VarsRead}
-use Rattle.meaning.specs.Typing as Typing
 use Rattle.meaning.proofs.Lists.{at-is}
 use Rattle.words.specs.Tables.{varIn, varsOf}
 use Rattle.words.proofs.Tables.{vars-length, vars-at}
 use Rattle.scope.specs.declared.Scope.{Scope}
 use Rattle.scope.specs.declared.Var.{Var}
 use Rattle.scope.specs.declared.Var.the-variants as Var
-use Rattle.scope.specs.Shows.{varOf, varAs, slotOf, slotVar, Low, bound, Shows}
+use Rattle.scope.specs.Shows.{varOf, varAs, slotOf, Low, bound, Shows}
 use Rattle.scope.proofs.Slots.{slot-none, shows-bind}
 
 -- a declared variable by its kind is the one that is declared

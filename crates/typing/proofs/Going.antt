@@ -6,12 +6,12 @@ use mathlib.Core.List.{List, [], _∷_, _++_}
 use mathlib.Core.Option.{Option, none, some}
 use Prim.Native.Nat.{ℕ, zero, suc, _+_, _*_, _-_, _≤_, _<_}
 use native.Mathlib.Omega.{arith}
-use lib.ListN.{length, getD, set, length-set, take}
+use lib.ListN.{length, getD, set, take}
 use Rattle.meaning.specs.Base.{Out, ok, refused, typeCapacity}
 use Rattle.meaning.specs.Types.{Table, Defs}
 use Rattle.meaning.specs.Records as Records
 use Rattle.meaning.specs.Records.{Node}
-use Rattle.meaning.specs.Queries.{Query, queryAt}
+use Rattle.meaning.specs.Queries.{queryAt}
 use Rattle.meaning.specs.Typing as Typing
 use Rattle.meaning.proofs.Codes.{query-labels}
 use Rattle.meaning.proofs.Nodes.{InQuery, everywhere}
@@ -21,22 +21,20 @@ use Rattle.words.proofs.Tables.{code-length}
 use Rattle.uses.specs.Counts.{Coded}
 use Rattle.scope.specs.declared.Scope.{Scope}
 use Rattle.scope.specs.Shows.{Shows}
-use Rattle.grow.specs.Grow.{Ready, Left, answerOf, After}
+use Rattle.grow.specs.Grow.{Left, answerOf, After}
 use Rattle.grow.specs.declared.Made.{Made}
 use Rattle.grow.specs.declared.Made.the-variants as Made
-use Rattle.grow.proofs.Steps.{left-ready}
 use Rattle.conds.proofs.Told.{shown, shows-shown}
-use Rattle.leaves.specs.Walk.{Within, Begins, walked, Walks}
-use Rattle.leaves.specs.declared.Walked.{Walked}
+use Rattle.leaves.specs.Walk.{Within, Begins, walked}
 use Rattle.joins.proofs.Growing.{walk-count, within-more}
 use Rattle.typing.specs.declared.Next.{Next}
 use Rattle.typing.specs.declared.Next.the-variants as Next
 use Rattle.typing.specs.declared.Step.{Step}
 use Rattle.typing.specs.Walking as Walking
-use Rattle.typing.specs.Walking.{onward, binder, named, inside, outside, Kept, Freed, size, cost, Here, Back, Goes, Turns, Typed}
+use Rattle.typing.specs.Walking.{onward, binder, named, inside, outside, Freed, size, cost, Here, Back, Goes, Turns, Typed}
 use Rattle.typing.proofs.Onward.{size-some}
 use Rattle.typing.proofs.Turning.{one-less, within-unbind}
-use Rattle.typing.proofs.Stack.{Frame, named-none, outside-inside, scopeOf, namesOf, resume, resume-refused, work, work-some, Sound, Stack, bottom, Top, top-of, stack-shows, stack-more, begun-work, begun-stack, kept-work, kept-stack, scope-wide}
+use Rattle.typing.proofs.Stack.{Frame, named-none, outside-inside, scopeOf, namesOf, resume, resume-refused, work, work-some, Stack, bottom, Top, top-of, stack-shows, stack-more, begun-work, begun-stack, kept-work, kept-stack, scope-wide}
 
 -- A WALK: the definitions, the query's nodes, the types and classes that it began with, of so many entries, the scope, the node to do, and how many words
 -- its marks and its stack have

@@ -4,7 +4,7 @@ use mathlib.Core.Path.{_≡_, refl, sym, ap, subst, _∙_}
 use mathlib.Core.List.{List}
 use Prim.Native.Nat.{ℕ, suc, _+_, _*_, _≤_, _<_}
 use native.Mathlib.Omega.{arith}
-use lib.ListN.{length, take}
+use lib.ListN.{take}
 use Rattle.meaning.specs.Base.{Out, ok, refused}
 use Rattle.meaning.specs.Types.{Table, Defs}
 use Rattle.meaning.specs.Records.{Node}
@@ -12,13 +12,12 @@ use Rattle.meaning.specs.Queries as Queries
 use Rattle.meaning.specs.Queries.{Query, Cond, queryAt, condAt}
 use Rattle.meaning.specs.Typing as Typing
 use Rattle.meaning.specs.Typing.{typeCond}
-use Rattle.words.specs.Tables.{tableOf, codeOf, nodeIn}
+use Rattle.words.specs.Tables.{codeOf, nodeIn}
 use Rattle.scope.specs.declared.Scope.{Scope}
 use Rattle.scope.specs.Shows.{Shows}
 use Rattle.conds.specs.Says.{verdict, Answers}
 use Rattle.conds.specs.declared.Verdict.{Verdict}
 use Rattle.conds.specs.declared.Verdict.the-variants as Verdict
-use Rattle.grow.specs.Grow.{Left}
 use Rattle.grow.specs.declared.Made.the-variants as Made
 use Rattle.leaves.specs.Walk.{walked, Walks}
 use Rattle.leaves.specs.declared.Walked.{Walked}

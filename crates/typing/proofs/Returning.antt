@@ -1,15 +1,14 @@
 -- A step up by the node that a frame has: what it is given, and a node that has nothing to do with an answer.
 -- Assumes nothing.
-use mathlib.Core.Path.{_≡_, refl, sym, ap, subst, _∙_}
+use mathlib.Core.Path.{_≡_, refl, sym, subst}
 use mathlib.Core.List.{List, [], _∷_}
 use Prim.Native.Nat.{ℕ, _+_, _*_, _≤_, _<_}
 use native.Mathlib.Omega.{arith}
 use types.Run.{OneOf, miss}
 use denote.Enum.Declared.{tagOf}
-use lib.ListN.{length, getD, take}
-use Rattle.meaning.specs.Base.{typeCapacity}
+use lib.ListN.{getD, take}
 use Rattle.meaning.specs.Queries as Queries
-use Rattle.meaning.specs.Queries.{Query, Cond, queryAt, condAt}
+use Rattle.meaning.specs.Queries.{Query, queryAt, condAt}
 use Rattle.words.specs.Tables.{codeOf, nodeIn}
 use Rattle.scope.specs.declared.Scope.{Scope}
 use Rattle.grow.specs.declared.Made.the-variants as Made

@@ -1,14 +1,13 @@
 -- The stack of the walk: the frames that its words are, the scope that they make, and what they leave to do.
 -- Assumes nothing.
-use mathlib.Core.Path.{_≡_, refl, sym, ap, subst, _∙_}
-use mathlib.Core.Logic.{_≢_}
-use mathlib.Core.List.{List, [], _∷_, _++_, append-assoc}
+use mathlib.Core.Path.{_≡_, refl, ap, _∙_}
+use mathlib.Core.List.{List, [], _∷_, _++_}
 use mathlib.Core.Option.{Option, none, some}
 use Prim.Native.Nat.{ℕ, zero, suc, _+_, _*_, _≤_, _<_}
 use native.Mathlib.Omega.{arith}
 use lib.ListN.{length, getD, set, length-set}
 use lib.Seq.{getD-set-same, getD-set-other}
-use Rattle.meaning.specs.Base.{Out, ok, refused}
+use Rattle.meaning.specs.Base.{Out, refused}
 use Rattle.meaning.specs.Types.{Table, Defs}
 use Rattle.meaning.specs.Records as Records
 use Rattle.meaning.specs.Records.{Node}
@@ -18,7 +17,7 @@ use Rattle.meaning.specs.Typing as Typing
 use Rattle.scope.specs.declared.Scope.{Scope}
 use Rattle.scope.specs.Shows.{Shows, slotOf, bound, varOf}
 use Rattle.scope.proofs.Slots.{shows-bind, unbind-bind}
-use Rattle.typing.specs.Walking.{onward, binder, named, coded, inside, outside, Kept, Free, Freed, size, halfCost, cost, begun}
+use Rattle.typing.specs.Walking.{onward, binder, named, coded, inside, outside, Kept, Freed, size, halfCost, cost, begun}
 
 -- a node that is begun, what it keeps, and the variable that it has bound
 pub record Frame : Type 0 where

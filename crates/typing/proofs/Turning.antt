@@ -2,16 +2,16 @@
 -- Assumes nothing.
 use mathlib.Core.Path.{_≡_, refl, sym, ap, subst, _∙_}
 use mathlib.Core.Logic.{_≢_}
-use mathlib.Core.Bool.{true, false, not}
-use mathlib.Core.List.{List, [], _∷_, _++_}
+use mathlib.Core.Bool.{not}
+use mathlib.Core.List.{List, _∷_, _++_}
 use mathlib.Core.Option.{Option, none, some}
-use Prim.Native.Nat.{ℕ, zero, suc, _+_, _*_, _-_, _≤_, _<_}
+use Prim.Native.Nat.{ℕ, suc, _+_, _*_, _-_, _≤_, _<_}
 use native.Mathlib.Omega.{arith}
 use native.Mathlib.Decide.{ℕ-discrete}
 use lib.ListN.{length, getD, set, length-set}
 use lib.Seq.{getD-set-same, getD-set-other}
 use Rattle.meaning.specs.Base as Base
-use Rattle.meaning.specs.Base.{Out, ok, refused, require, isSome, find, typeCapacity}
+use Rattle.meaning.specs.Base.{Out, ok, require, isSome, find, typeCapacity}
 use Rattle.meaning.specs.Types as Types
 use Rattle.meaning.specs.Types.{Entry, Table, Defs}
 use Rattle.meaning.specs.Shapes.{Class, one, maybe, more, any, shape, quant, allowing}
@@ -33,7 +33,7 @@ use Rattle.scope.specs.declared.Scope.{Scope}
 use Rattle.scope.specs.declared.Var.the-variants as Var
 use Rattle.scope.specs.Shows.{Shows, slotOf, slotVar, bound}
 use Rattle.scope.proofs.Slots.{slot-none}
-use Rattle.grow.specs.Grow.{Ready, Left, New}
+use Rattle.grow.specs.Grow.{Left, New}
 use Rattle.grow.specs.declared.Made.{Made}
 use Rattle.grow.specs.declared.Made.the-variants as Made
 use Rattle.grow.proofs.Entries.{new-element, new-pair}
@@ -47,7 +47,7 @@ use Rattle.joins.proofs.Growing.{within-more, within-bind}
 use Rattle.typing.specs.declared.Next.the-variants as Next
 use Rattle.typing.specs.declared.Step.{Step}
 use Rattle.typing.specs.Walking as Walking
-use Rattle.typing.specs.Walking.{onward, binder, named, coded, inside, outside, Kept, Free, Freed, size, cost, stepped, Turns}
+use Rattle.typing.specs.Walking.{onward, binder, named, inside, outside, Kept, Free, Freed, size, cost, stepped, Turns}
 
 -- 14 does not stop a variable whose word is 0
 pub free-ok : {s : Scope} {v : ℕ} (n : ℕ) (g : Typing.Scope) → Free s v → Shows s g → unbound n g v ≡ ok tt

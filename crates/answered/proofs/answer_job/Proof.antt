@@ -2,7 +2,6 @@
 use Rattle.words.proofs.Stores.{blanked-whole}
 use Rattle.answered.proofs.Leaving.{job-ready, job-settled, job-stopped}
 use borrow.Author.Needs.{needs}
-use native.Mathlib.Omega.{arith}
 use Rattle.answered.proofs.answer_job.Statement.{statement}
 use Rattle.answered.proofs.answer_job.Tie as tie
 

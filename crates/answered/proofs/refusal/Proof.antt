@@ -1,7 +1,6 @@
 -- `answered::refusal` meets its contract: by what the answer to a refusal is. Assumes nothing.
 use Rattle.answered.specs.Says.{answeredOf}
 use borrow.Author.Needs.{needs}
-use native.Mathlib.Omega.{arith}
 use Rattle.answered.proofs.refusal.Statement.{statement}
 use Rattle.answered.proofs.refusal.Tie as tie
 

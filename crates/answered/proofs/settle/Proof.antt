@@ -1,7 +1,6 @@
 -- `answered::settle` meets its contract: the tables stay, or both are cleared. Assumes nothing.
 use Rattle.answered.proofs.Leaving.{written-settled, short-settled}
 use borrow.Author.Needs.{needs}
-use native.Mathlib.Omega.{arith}
 use Rattle.answered.proofs.settle.Statement.{statement}
 use Rattle.answered.proofs.settle.Tie as tie
 

@@ -4,7 +4,6 @@ use borrow.Author.Tests.{not-true, not-false}
 use Rattle.guard.specs.Says.{outcome}
 use Rattle.back.proofs.Judging.{not-ended, ended-checked}
 use borrow.Author.Needs.{needs}
-use native.Mathlib.Omega.{arith}
 use Rattle.back.proofs.judge.Statement.{statement}
 use Rattle.back.proofs.judge.Tie as tie
 

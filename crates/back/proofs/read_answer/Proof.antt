@@ -1,7 +1,6 @@
 -- `back::read_answer` meets its contract: what the reader refuses is refused, and what it reads is settled. Assumes nothing.
 use Rattle.back.proofs.Judging.{file-ready, file-settled, file-stopped}
 use borrow.Author.Needs.{needs}
-use native.Mathlib.Omega.{arith}
 use Rattle.back.proofs.read_answer.Statement.{statement}
 use Rattle.back.proofs.read_answer.Tie as tie
 

@@ -1,7 +1,6 @@
 -- `back::refusal` meets its contract: by what the answer to a refusal is. Assumes nothing.
 use Rattle.back.specs.Says.{backOf}
 use borrow.Author.Needs.{needs}
-use native.Mathlib.Omega.{arith}
 use Rattle.back.proofs.refusal.Statement.{statement}
 use Rattle.back.proofs.refusal.Tie as tie
 

@@ -3,7 +3,6 @@ use mathlib.Core.Path.{ap, sym, _∙_}
 use Rattle.back.specs.Says.{verdict}
 use Rattle.back.proofs.Judging.{passed-leaves, refused-leaves}
 use borrow.Author.Needs.{needs}
-use native.Mathlib.Omega.{arith}
 use Rattle.back.proofs.settle.Statement.{statement}
 use Rattle.back.proofs.settle.Tie as tie
 

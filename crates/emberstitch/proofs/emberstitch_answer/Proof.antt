@@ -1,7 +1,6 @@
 -- `emberstitch::emberstitch_answer` meets its contract: the tables have full capacity, and the number is the answer's. Assumes nothing.
 use Rattle.emberstitch.proofs.Calls.{job-small, job-called}
 use borrow.Author.Needs.{needs}
-use native.Mathlib.Omega.{arith}
 use Rattle.emberstitch.proofs.emberstitch_answer.Statement.{statement}
 use Rattle.emberstitch.proofs.emberstitch_answer.Tie as tie
 

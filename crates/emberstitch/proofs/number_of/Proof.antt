@@ -1,8 +1,7 @@
 -- `emberstitch::number_of` meets its contract: a refusal's number and its place fit 64 bits. Assumes nothing.
-use mathlib.Core.Path.{ap, sym, subst, _∙_}
+use mathlib.Core.Path.{ap, sym, subst}
 use Rattle.emberstitch.specs.Promises.{numberOf, Small}
 use borrow.Author.Needs.{needs}
-use native.Mathlib.Omega.{arith}
 use Rattle.emberstitch.proofs.number_of.Statement.{statement}
 use Rattle.emberstitch.proofs.number_of.Tie as tie
 

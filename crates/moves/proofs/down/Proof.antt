@@ -2,7 +2,6 @@
 -- Assumes nothing.
 use Rattle.moves.proofs.Adding.{moves-full, moves-done}
 use lib.ListN.{length-take, length-drop}
-use Prim.Native.Nat.{_-_}
 use mathlib.Core.Path.{refl}
 use native.Mathlib.Omega.{arith}
 use borrow.Author.Needs.{needs}

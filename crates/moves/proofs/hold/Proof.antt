@@ -4,7 +4,6 @@ use mathlib.Core.Path.{sym}
 use lib.Seq.{length-take-le}
 use Rattle.moves.proofs.Shifting.{stored-behind}
 use lib.ListN.{length-take, length-drop}
-use Prim.Native.Nat.{_-_}
 use native.Mathlib.Omega.{arith}
 use borrow.Author.Needs.{needs}
 use Rattle.moves.proofs.hold.Statement.{statement}

@@ -1,7 +1,6 @@
 -- `ran::refusal` meets its contract: by what the answer to a refusal is. Assumes nothing.
 use Rattle.ran.specs.Says.{ranOf}
 use borrow.Author.Needs.{needs}
-use native.Mathlib.Omega.{arith}
 use Rattle.ran.proofs.refusal.Statement.{statement}
 use Rattle.ran.proofs.refusal.Tie as tie
 

@@ -1,7 +1,6 @@
 -- `ran::run_job` meets its contract: what typing refuses is refused, and what it types is run. Assumes nothing.
 use Rattle.ran.proofs.Leaving.{job-ready, job-settled, job-stopped}
 use borrow.Author.Needs.{needs}
-use native.Mathlib.Omega.{arith}
 use Rattle.ran.proofs.run_job.Statement.{statement}
 use Rattle.ran.proofs.run_job.Tie as tie
 

@@ -2,7 +2,6 @@
 use mathlib.Core.Path.{_∙_}
 use Rattle.ran.proofs.Leaving.{few-vars, load-begins, load-settled, load-stopped}
 use borrow.Author.Needs.{needs}
-use native.Mathlib.Omega.{arith}
 use Rattle.ran.proofs.run_typed.Statement.{statement}
 use Rattle.ran.proofs.run_typed.Tie as tie
 

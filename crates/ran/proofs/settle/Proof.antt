@@ -1,7 +1,6 @@
 -- `ran::settle` meets its contract: the tables stay, or all are cleared. Assumes nothing.
 use Rattle.ran.proofs.Leaving.{done-settles, full-settles}
 use borrow.Author.Needs.{needs}
-use native.Mathlib.Omega.{arith}
 use Rattle.ran.proofs.settle.Statement.{statement}
 use Rattle.ran.proofs.settle.Tie as tie
 

@@ -4,7 +4,6 @@ use Prim.Native.Nat.{_≤_}
 use Rattle.words.specs.Tables.{varsOf}
 use Rattle.ran.proofs.Spreading.{From, from-none, from-all, turn-low, turn-from}
 use borrow.Author.Needs.{needs}
-use native.Mathlib.Omega.{arith}
 use Rattle.ran.proofs.spread.Statement.{statement}
 use Rattle.ran.proofs.spread.Tie as tie
 

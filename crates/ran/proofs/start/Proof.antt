@@ -1,7 +1,6 @@
 -- `ran::start` meets its contract. Assumes nothing.
 use Rattle.ran.proofs.Spreading.{start-later}
 use borrow.Author.Needs.{needs}
-use native.Mathlib.Omega.{arith}
 use Rattle.ran.proofs.start.Statement.{statement}
 use Rattle.ran.proofs.start.Tie as tie
 

@@ -1,7 +1,6 @@
 -- `reach::push_two` meets its contract. Assumes nothing.
 use Rattle.reach.proofs.Pushing.{grew-two, grew-room}
 use borrow.Author.Needs.{needs}
-use native.Mathlib.Omega.{arith}
 use Rattle.reach.proofs.push_two.Statement.{statement}
 use Rattle.reach.proofs.push_two.Tie as tie
 

@@ -1,7 +1,7 @@
 -- `reach::reach` meets its contract: what is marked is reached, and what stands in it is marked or still to be visited (`Visiting`). Assumes nothing.
 use mathlib.Core.Path.{refl, sym, _∙_}
 use lib.Seq.{length-take-le}
-use Rattle.reach.proofs.Reaching.{cleared-length, Anyhow, left-over, start-room, anyhow-start, anyhow-room, anyhow-place, anyhow-small, anyhow-low, anyhow-within, anyhow-inside, anyhow-visited, anyhow-end, one-left, over-less}
+use Rattle.reach.proofs.Reaching.{cleared-length, Anyhow, left-over, start-room, anyhow-start, anyhow-room, anyhow-place, anyhow-small, anyhow-within, anyhow-inside, anyhow-visited, anyhow-end, one-left, over-less}
 use borrow.Author.Needs.{needs}
 use native.Mathlib.Omega.{arith}
 use Rattle.reach.proofs.reach.Statement.{statement}

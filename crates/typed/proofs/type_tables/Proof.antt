@@ -1,7 +1,6 @@
 -- `typed::type_tables` meets its contract: the walk, and what is left after it. Assumes nothing.
 use Rattle.typed.proofs.Leaving.{walk-settled}
 use borrow.Author.Needs.{needs}
-use native.Mathlib.Omega.{arith}
 use Rattle.typed.proofs.type_tables.Statement.{statement}
 use Rattle.typed.proofs.type_tables.Tie as tie
 

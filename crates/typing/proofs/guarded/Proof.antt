@@ -2,7 +2,6 @@
 -- Assumes nothing.
 use Rattle.typing.proofs.Onward.{guard-stops, guard-passes}
 use borrow.Author.Needs.{needs}
-use native.Mathlib.Omega.{arith}
 use Rattle.typing.proofs.guarded.Statement.{statement}
 use Rattle.typing.proofs.guarded.Tie as tie
 

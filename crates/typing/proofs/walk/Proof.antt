@@ -1,11 +1,9 @@
 -- `typing::walk` meets its contract: what is left to do, at the node or with the answer that it has come to, is the whole (`Going`).
 -- Assumes nothing.
-use mathlib.Core.Path.{refl, _∙_}
+use mathlib.Core.Path.{refl}
 use lib.ListN.{length}
-use Rattle.typing.proofs.Turning.{one-less}
 use Rattle.typing.proofs.Going.{Going, left, going-start, down-here, down-room, down-steps, up-done, up-stops, up-back, up-steps, at-node, at-end, at-stop, at-frame, stepped-going, stepped-less, framed-less}
 use borrow.Author.Needs.{needs}
-use native.Mathlib.Omega.{arith}
 use Rattle.typing.proofs.walk.Statement.{statement}
 use Rattle.typing.proofs.walk.Tie as tie
 
