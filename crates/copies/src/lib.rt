@@ -2,7 +2,7 @@
 // and those inside them. One tree is one stretch of the table, and is handed on as such.
 ghost use mathlib.Core.Path.{_≡_};
 ghost use mathlib.Core.Bool.{false};
-ghost use Prim.Native.Nat.{_*_, _≤_, _<_};
+ghost use Prim.Native.Nat.{_+_, _*_, _≤_, _<_};
 ghost use lib.ListN.{length};
 ghost use Rattle.meaning.specs.Base.{zeros};
 ghost use Rattle.meaning.specs.Forests.{Forest, forestWords, join, select};
@@ -74,10 +74,12 @@ fn stride(deep: bool, size: usize) -> usize
     if deep { 1 } else { size }
 }
 
-// Behind m entries, the trees among entries `from` to `to` that pass the test: those at the top, or all that begin there.
+// Behind m entries, the trees among entries `from` to `to` that pass the test: those at the top, or all that begin there. The first `skip` entries are
+// passed over: 1 for the trees inside a tree, 0 where the tree itself is one of them.
 pub fn chosen(
     held: &[u16],
     from: usize,
+    skip: usize,
     to: usize,
     test: u16,
     deep: bool,
@@ -85,10 +87,10 @@ pub fn chosen(
     m: usize,
     n: usize,
 ) -> Made
-    requires { ⌜ Stretch (now held) from to ⌝ ∗ ⌜ ((g : Forest) × Filled (length (now rest)) (now rest) m g) ⌝ }
-    ensures { λ r. ⌜ ((f g : Forest) → part (now (held .entry)) from to ≡ forestWords f → Filled (length (now (rest .entry))) (now (rest .entry)) m g → Copied (length (now (rest .entry))) (now (rest .exit)) n r (join g (select test (spread deep f)))) ⌝ }
+    requires { ⌜ Stretch (now held) (from + skip) to ⌝ ∗ ⌜ ((g : Forest) × Filled (length (now rest)) (now rest) m g) ⌝ }
+    ensures { λ r. ⌜ ((f g : Forest) → part (now (held .entry)) (from + skip) to ≡ forestWords f → Filled (length (now (rest .entry))) (now (rest .entry)) m g → Copied (length (now (rest .entry))) (now (rest .exit)) n r (join g (select test (spread deep f)))) ⌝ }
 {
-    let mut j = from;
+    let mut j = from + skip;
     let mut top = m;
     while j < to {
         let size = words::wide(held[3 * j + 2]) + 1;
@@ -112,9 +114,8 @@ pub fn inner(held: &[u16], from: usize, to: usize, test: u16, rest: &mut [u16], 
     let mut j = from;
     let mut top = 0;
     while j < to {
-        let below = j + 1;
-        let next = below + words::wide(held[3 * j + 2]);
-        let made = chosen(held, below, next, test, false, rest, top, n);
+        let next = j + 1 + words::wide(held[3 * j + 2]);
+        let made = chosen(held, j, 1, next, test, false, rest, top, n);
         let Made::Done(k) = made else {
             return made;
         };

@@ -54,7 +54,7 @@ pub fn child(scope: Spans, held: &[u16], rest: &mut [u16], n: usize, v: u16, tes
     Step { made, scope }
 }
 
-// dos: the trees of a variable and all below them.
+// dos: the trees of a variable and all below them, so that no entry is passed over.
 pub fn dos(scope: Spans, held: &[u16], rest: &mut [u16], n: usize, v: u16, test: u16) -> Step
     requires { ⌜ Within scope (now held) v ⌝ ∗ ⌜ now rest ≡ zeros (length (now rest)) ⌝ }
     ensures { λ r. ⌜ Picks scope (now (held .entry)) (length (now (rest .entry))) (now (rest .exit)) n r (λ env. select test (Forests.below (valueOf env v))) ⌝ }
@@ -62,7 +62,7 @@ pub fn dos(scope: Spans, held: &[u16], rest: &mut [u16], n: usize, v: u16, test:
     let at = scope.lookup(words::wide(v));
     let a = words::wide(at.span.from);
     let e = words::wide(at.span.to);
-    let made = copies::chosen(held, a, e, test, true, rest, 0, n);
+    let made = copies::chosen(held, a, 0, e, test, true, rest, 0, n);
     let scope = at.scope;
     Step { made, scope }
 }

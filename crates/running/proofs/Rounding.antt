@@ -99,16 +99,16 @@ module _ {v q : ℕ} {f : Frame} {m : ℕ} {s : Spans} {held rest : List ℕ} (l
     here : f .next < x .at + l .k
     here = omega (arith, l .base)
 
-    pub there-is : {j c : ℕ} → j ≡ f .next → c ≡ getD held (3 * j + 2) 0 → j + c + 1 ≡ f .next + getD held (3 * f .next + 2) 0 + 1
-    there-is {j} {c} ej ec = ap (λ (n : ℕ). n + c + 1) ej ∙ ap (λ (n : ℕ). f .next + n + 1) (ec ∙ ap (λ (n : ℕ). getD held (3 * n + 2) 0) ej)
+    pub there-is : {j c : ℕ} → j ≡ f .next → c ≡ getD held (3 * j + 2) 0 → j + (c + 1) ≡ f .next + getD held (3 * f .next + 2) 0 + 1
+    there-is {j} {c} ej ec = let z : c ≡ getD held (3 * f .next + 2) 0 = ec ∙ ap (λ (n : ℕ). getD held (3 * n + 2) 0) ej in omega (arith, z, ej)
 
     module _ {end : ℕ} (there : end ≡ f .next + getD held (3 * f .next + 2) 0 + 1) where
       pub tree-ends : (f .next < end) × (end ≤ f .base + l .k)
       tree-ends = let z = turn-ends source among (l .rounds) here there in (z .0, omega (arith, z .1, l .base))
 
-      pub round-on : v ≤ 63 → (g : Frame) → g .node ≡ f .node → g .base ≡ f .base → g .kept ≡ f .kept → g .next ≡ end → {w b c : ℕ} → w ≡ v → b ≡ f .base → c ≡ f .kept → g .hides ≡ standing s w → {u : Spans} → u ≡ bound s w (record { from = f .next; to = end })
+      pub round-on : v ≤ 63 → (g : Frame) → g .node ≡ f .node → g .base ≡ f .base → g .kept ≡ f .kept → g .next ≡ end → {w b c : ℕ} → w ≡ v → b ≡ f .base → c ≡ f .kept → g .hides ≡ standing s w → {from to : ℕ} {u : Spans} → u ≡ bound s w (record { from = from; to = to }) → from ≡ f .next → to ≡ end
           → {st st' : List ℕ} {top : ℕ} {t : Turn} → st' ≡ framed st top g → t ≡ record { next = Next.Down q (b + (c - 1) + m) (suc top); scope = u } → Steps (l .code) (l .nodes) (still (queryAt (codeOf (l .code) (l .nodes)) (x .node)) f) x held rest st st' top t
-      round-on few g gn gb gk gx {b = b} {c} ew eb ec gh eu est et =
+      round-on few g gn gb gk gx {w = w} {b = b} {c} ew eb ec gh {to = to} eu efrom eto est et =
           let r = subst (λ (c : Spans). Rounds v now (x .scope) (holding x (l .k) (l .after) (l .us)) (drop (3 * l .k) (l .us)) (x .at + l .k) (x .at) (x .at + l .k) held (l .vs) c (f .next) m) (l .rounds .kept) (l .rounds) in
           let o = begins-on source (turn-behind source among r) in
           let ends = turn-ends source among (l .rounds) here there in
@@ -125,4 +125,4 @@ module _ {v q : ℕ} {f : Frame} {m : ℕ} {s : Spans} {held rest : List ℕ} (l
           refl
           (l .part ∙ ap (λ (ws : List ℕ). take (3 * l .k) (l .us) ++ ws) (sym (take-append-drop (3 * m) (l .vs))) ∙ sym (append-assoc (take (3 * l .k) (l .us)) (take (3 * m) (l .vs)) (drop (3 * m) (l .vs))))
           est
-          (turn-as et (ap (λ (j : ℕ). j + (c - 1) + m) (eb ∙ l .base) ∙ ap (λ (j : ℕ). x .at + j + m) (source-is ec)) (eu ∙ ap (λ (c : ℕ). bound s c (record { from = f .next; to = end })) ew ∙ ap (λ (j : ℕ). bound s v (record { from = f .next; to = j })) (sym gx) ∙ ap (λ (c : Spans). bound c v span) (l .rounds .kept)))
+          (turn-as et (ap (λ (j : ℕ). j + (c - 1) + m) (eb ∙ l .base) ∙ ap (λ (j : ℕ). x .at + j + m) (source-is ec)) (eu ∙ ap (λ (j : ℕ). bound s w (record { from = j; to = to })) efrom ∙ ap (λ (j : ℕ). bound s w (record { from = f .next; to = j })) eto ∙ ap (λ (c : ℕ). bound s c (record { from = f .next; to = end })) ew ∙ ap (λ (j : ℕ). bound s v (record { from = f .next; to = j })) (sym gx) ∙ ap (λ (c : Spans). bound c v span) (l .rounds .kept)))

@@ -276,16 +276,20 @@ fn round(
     let j = words::wide(f.next);
     let end = base + k;
     if j < end {
-        let after = j + words::wide(held[3 * j + 2]) + 1;
-        let to = after as u16;
-        let x = Span { from: f.next, to };
+        let size = words::wide(held[3 * j + 2]) + 1;
+        let tree = f.next;
+        let end_of_tree = words::wide(tree) + size;
+        let to = end_of_tree as u16;
+        let x = Span { from: tree, to };
+        let after = j + size;
+        let next = after as u16;
         let bound = scope.bind(words::wide(v), x);
         let hides = bound.span;
         let g = Frame {
             node: f.node,
             base: f.base,
             kept: f.kept,
-            next: to,
+            next,
             hides,
         };
         return go_on(stack, i, g, q, end + m, bound.scope);

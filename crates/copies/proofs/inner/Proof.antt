@@ -17,10 +17,11 @@ abbrev μ-loop : tie.MeasureT-loop
 μ-loop held from to test rest₀ n j₀ top₀ rest j top = to - j
 
 loop-holds : tie.Need-loop-holds Inv-loop μ-loop
-loop-holds c = gathering-start (c .before .before .pre .0) (c .before .before .pre .1)
+loop-holds c =
+    gathering-start ((c .before .before) .pre .0) ((c .before .before) .pre .1)
 
-add-below : tie.Need-add-below Inv-loop μ-loop
-add-below c = search needs
+add-next : tie.Need-add-next Inv-loop μ-loop
+add-next c = search needs
 
 mul-wide : tie.Need-mul-wide Inv-loop μ-loop
 mul-wide c = search needs
@@ -37,11 +38,13 @@ shared-slice-read-wide c = search needs
 wide-requires : tie.Need-wide-requires Inv-loop μ-loop
 wide-requires c κs = search needs
 
-add-next : tie.Need-add-next Inv-loop μ-loop
-add-next c = omega (arith, inner-ends (c .before .before .before .loop .inv) (c .before .before .loop-test .taken) (ap (λ (x : ℕ). (c .before .before .before .loop .j) + 1 + x) (c .wide .ensures)), (c .before .before .before .loop .inv .inside))
+add-next-2 : tie.Need-add-next-2 Inv-loop μ-loop
+add-next-2 c =
+    omega (arith, inner-ends ((c .before .before .before) .loop .inv) ((c .before .before) .loop-test .taken) (ap (λ (x : ℕ). ((c .before .before .before) .loop .j) + 1 + x) (c .wide .ensures)), ((c .before .before .before) .loop .inv .inside))
 
 chosen-requires : tie.Need-chosen-requires Inv-loop μ-loop
-chosen-requires c κs = (inner-stretch (c .before .before .before .before .loop .inv) (c .before .before .before .loop-test .taken) (ap (λ (x : ℕ). (c .before .before .before .before .loop .j) + 1 + x) (c .before .wide .ensures)), ((c .before .before .before .before .loop .inv .so-far), filled-self (c .before .before .before .before .loop .inv .filled)))
+chosen-requires c κs =
+    (inner-stretch ((c .before .before .before .before) .loop .inv) ((c .before .before .before) .loop-test .taken) (ap (λ (x : ℕ). ((c .before .before .before .before) .loop .j) + 1 + x) ((c .before) .wide .ensures)), (((c .before .before .before .before) .loop .inv .so-far), filled-self ((c .before .before .before .before) .loop .inv .filled)))
 
 enum-known-made : tie.Need-enum-known-made Inv-loop μ-loop
 enum-known-made c = search needs
@@ -50,43 +53,28 @@ enum-told : tie.Need-enum-told Inv-loop μ-loop
 enum-told c = search needs
 
 same-length : tie.Need-same-length Inv-loop μ-loop
-same-length c = (c .before .before .before .before .chosen .kept .1 .1 .1 .1 .1 .0) ∙ filled-length (c .before .before .before .before .before .before .before .before .before .loop .inv .filled)
+same-length c =
+    ((c .before .before .before .before) .chosen .kept .1 .1 .1 .1 .1 .1 .0) ∙ filled-length ((c .before .before .before .before .before .before .before .before .before) .loop .inv .filled)
 
 returns : tie.Need-returns Inv-loop μ-loop
-returns c = inner-full (c .before .before .before .before .before .before .before .before .before .loop .inv) (c .before .before .before .before .before .before .before .before .loop-test .taken) (ap (λ (x : ℕ). (c .before .before .before .before .before .before .before .before .before .loop .j) + 1 + x) (c .before .before .before .before .before .before .wide .ensures)) _ (c .enum-told .given .1) (c .before .before .before .before .chosen .ensures)
+returns c =
+    inner-full ((c .before .before .before .before .before .before .before .before .before) .loop .inv) ((c .before .before .before .before .before .before .before .before) .loop-test .taken) (ap (λ (x : ℕ). ((c .before .before .before .before .before .before .before .before .before) .loop .j) + 1 + x) ((c .before .before .before .before .before .before) .wide .ensures)) _ (c .enum-told .given .1) ((c .before .before .before .before) .chosen .ensures)
 
 loop-less : tie.Need-loop-less Inv-loop μ-loop
-loop-less c = omega (arith, inner-ends (c .before .before .before .before .before .before .before .before .before .before .loop .inv) (c .before .before .before .before .before .before .before .before .before .loop-test .taken) (ap (λ (x : ℕ). (c .before .before .before .before .before .before .before .before .before .before .loop .j) + 1 + x) (c .before .before .before .before .before .before .before .wide .ensures)))
+loop-less c =
+    omega (arith, inner-ends ((c .before .before .before .before .before .before .before .before .before .before) .loop .inv) ((c .before .before .before .before .before .before .before .before .before) .loop-test .taken) (ap (λ (x : ℕ). ((c .before .before .before .before .before .before .before .before .before .before) .loop .j) + 1 + x) ((c .before .before .before .before .before .before .before) .wide .ensures)))
 
 loop-again : tie.Need-loop-again Inv-loop μ-loop
-loop-again c = inner-next (c .before .before .before .before .before .before .before .before .before .before .loop .inv) (c .before .before .before .before .before .before .before .before .before .loop-test .taken) (ap (λ (x : ℕ). (c .before .before .before .before .before .before .before .before .before .before .loop .j) + 1 + x) (c .before .before .before .before .before .before .before .wide .ensures)) (c .before .made .given .1) (c .before .before .before .before .before .chosen .ensures)
+loop-again c =
+    inner-next ((c .before .before .before .before .before .before .before .before .before .before) .loop .inv) ((c .before .before .before .before .before .before .before .before .before) .loop-test .taken) (ap (λ (x : ℕ). ((c .before .before .before .before .before .before .before .before .before .before) .loop .j) + 1 + x) ((c .before .before .before .before .before .before .before) .wide .ensures)) ((c .before) .made .given .1) ((c .before .before .before .before .before) .chosen .ensures)
 
 same-length-2 : tie.Need-same-length-2 Inv-loop μ-loop
-same-length-2 c = filled-length (c .before .loop .inv .filled)
+same-length-2 c =
+    filled-length ((c .before) .loop .inv .filled)
 
 returns-2 : tie.Need-returns-2 Inv-loop μ-loop
-returns-2 c = gathering-end (c .before .loop .inv) (c .loop-test .left) (c .before .before .before .before .args .n)
+returns-2 c =
+    gathering-end ((c .before) .loop .inv) (c .loop-test .left) ((c .before .before .before .before) .args .n)
 
 pub inner-spec : {M : Type 1} → statement M
-inner-spec =
-    tie.close
-    (tie.spec
-    Inv-loop
-    μ-loop
-    loop-holds
-    add-below
-    mul-wide
-    add-wide
-    mul-wide-2
-    shared-slice-read-wide
-    wide-requires
-    add-next
-    chosen-requires
-    enum-known-made
-    enum-told
-    same-length
-    returns
-    loop-less
-    loop-again
-    same-length-2
-    returns-2)
+inner-spec = tie.close (tie.spec Inv-loop μ-loop loop-holds add-next mul-wide add-wide mul-wide-2 shared-slice-read-wide wide-requires add-next-2 chosen-requires enum-known-made enum-told same-length returns loop-less loop-again same-length-2 returns-2)

@@ -48,35 +48,50 @@ shared-slice-read-wide c =
 wide-requires-4 : tie.Need-wide-requires-4
 wide-requires-4 c κs = search needs
 
-add-after : tie.Need-add-after
-add-after c =
+add-size : tie.Need-add-size
+add-size c =
     let l = (c .before .before .before .before .before .before .before .before .before) .pre .1 .1 in
     let more = more-is l ((c .before .before .before .before .before) .wide .ensures) ((c .before .before .before .before) .wide2 .ensures) ((c .before .before .before) .wide3 .ensures) ((c .before .before) .if1 .taken) in
-    omega (arith, loop-low l, tree-ends l more (there-is l more ((c .before .before .before) .wide3 .ensures) (c .wide4 .ensures)) .1)
-
-add-after-2 : tie.Need-add-after-2
-add-after-2 c =
-    let l = (c .before .before .before .before .before .before .before .before .before) .pre .1 .1 in
-    let more = more-is l ((c .before .before .before .before .before) .wide .ensures) ((c .before .before .before .before) .wide2 .ensures) ((c .before .before .before) .wide3 .ensures) ((c .before .before) .if1 .taken) in
-    omega (arith, loop-low l, tree-ends l more (there-is l more ((c .before .before .before) .wide3 .ensures) (c .wide4 .ensures)) .1)
-
-cast-to : tie.Need-cast-to
-cast-to c =
-    let l = (c .before .before .before .before .before .before .before .before .before) .pre .1 .1 in
-    let more = more-is l ((c .before .before .before .before .before) .wide .ensures) ((c .before .before .before .before) .wide2 .ensures) ((c .before .before .before) .wide3 .ensures) ((c .before .before) .if1 .taken) in
-    omega (arith, loop-low l, tree-ends l more (there-is l more ((c .before .before .before) .wide3 .ensures) (c .wide4 .ensures)) .1)
+    omega (arith, more, loop-low l, tree-ends l more (there-is l more ((c .before .before .before) .wide3 .ensures) (c .wide4 .ensures)) .1)
 
 wide-requires-5 : tie.Need-wide-requires-5
 wide-requires-5 c κs = search needs
 
+add-end-of-tree : tie.Need-add-end-of-tree
+add-end-of-tree c =
+    let l = (c .before .before .before .before .before .before .before .before .before .before) .pre .1 .1 in
+    let more = more-is l ((c .before .before .before .before .before .before) .wide .ensures) ((c .before .before .before .before .before) .wide2 .ensures) ((c .before .before .before .before) .wide3 .ensures) ((c .before .before .before) .if1 .taken) in
+    omega (arith, more, loop-low l, tree-ends l more (there-is l more ((c .before .before .before .before) .wide3 .ensures) ((c .before) .wide4 .ensures)) .1, (c .before .before .before .before) .wide3 .ensures, c .wide5 .ensures)
+
+cast-to : tie.Need-cast-to
+cast-to c =
+    let l = (c .before .before .before .before .before .before .before .before .before .before) .pre .1 .1 in
+    let more = more-is l ((c .before .before .before .before .before .before) .wide .ensures) ((c .before .before .before .before .before) .wide2 .ensures) ((c .before .before .before .before) .wide3 .ensures) ((c .before .before .before) .if1 .taken) in
+    omega (arith, more, loop-low l, tree-ends l more (there-is l more ((c .before .before .before .before) .wide3 .ensures) ((c .before) .wide4 .ensures)) .1, (c .before .before .before .before) .wide3 .ensures, c .wide5 .ensures)
+
+add-after : tie.Need-add-after
+add-after c =
+    let l = (c .before .before .before .before .before .before .before .before .before .before) .pre .1 .1 in
+    let more = more-is l ((c .before .before .before .before .before .before) .wide .ensures) ((c .before .before .before .before .before) .wide2 .ensures) ((c .before .before .before .before) .wide3 .ensures) ((c .before .before .before) .if1 .taken) in
+    omega (arith, more, loop-low l, tree-ends l more (there-is l more ((c .before .before .before .before) .wide3 .ensures) ((c .before) .wide4 .ensures)) .1)
+
+cast-next : tie.Need-cast-next
+cast-next c =
+    let l = (c .before .before .before .before .before .before .before .before .before .before) .pre .1 .1 in
+    let more = more-is l ((c .before .before .before .before .before .before) .wide .ensures) ((c .before .before .before .before .before) .wide2 .ensures) ((c .before .before .before .before) .wide3 .ensures) ((c .before .before .before) .if1 .taken) in
+    omega (arith, more, loop-low l, tree-ends l more (there-is l more ((c .before .before .before .before) .wide3 .ensures) ((c .before) .wide4 .ensures)) .1)
+
+wide-requires-6 : tie.Need-wide-requires-6
+wide-requires-6 c κs = search needs
+
 bind-requires : tie.Need-bind-requires
 bind-requires c κs =
-    omega (arith, c .wide5 .ensures, (c .before .before .before .before .before .before .before .before .before .before) .pre .1 .0)
+    omega (arith, c .wide6 .ensures, (c .before .before .before .before .before .before .before .before .before .before .before) .pre .1 .0)
 
 add-go-on : tie.Need-add-go-on
 add-go-on c =
-    let l = (c .before .before .before .before .before .before .before .before .before .before .before .before .before) .pre .1 .1 in
-    omega (arith, loop-low l, source-is l ((c .before .before .before .before .before .before .before .before) .wide2 .ensures), (c .before .before .before .before .before .before .before .before .before) .wide .ensures)
+    let l = (c .before .before .before .before .before .before .before .before .before .before .before .before .before .before) .pre .1 .1 in
+    omega (arith, loop-low l, source-is l ((c .before .before .before .before .before .before .before .before .before) .wide2 .ensures), (c .before .before .before .before .before .before .before .before .before .before) .wide .ensures)
 
 go-on-requires : tie.Need-go-on-requires
 go-on-requires c κs = search needs
@@ -87,8 +102,8 @@ same-length c = search needs
 returns : tie.Need-returns
 returns c =
     λ l.
-    let more = more-is l ((c .before .before .before .before .before .before .before .before .before .before .before .before) .wide .ensures) ((c .before .before .before .before .before .before .before .before .before .before .before) .wide2 .ensures) ((c .before .before .before .before .before .before .before .before .before .before) .wide3 .ensures) ((c .before .before .before .before .before .before .before .before .before) .if1 .taken) in
-    round-on l more (there-is l more ((c .before .before .before .before .before .before .before .before .before .before) .wide3 .ensures) ((c .before .before .before .before .before .before .before) .wide4 .ensures)) ((c .before .before .before .before .before .before .before .before .before .before .before .before .before .before .before .before) .pre .1 .0) _ refl refl refl refl ((c .before .before .before .before .before .before) .wide5 .ensures) ((c .before .before .before .before .before .before .before .before .before .before .before .before) .wide .ensures) ((c .before .before .before .before .before .before .before .before .before .before .before) .wide2 .ensures) ((c .before .before .before .before .before) .bind .ensures .1) ((c .before .before .before .before .before) .bind .ensures .0) ((c .before .before) .go-on .ensures .1) ((c .before .before) .go-on .ensures .0)
+    let more = more-is l ((c .before .before .before .before .before .before .before .before .before .before .before .before .before) .wide .ensures) ((c .before .before .before .before .before .before .before .before .before .before .before .before) .wide2 .ensures) ((c .before .before .before .before .before .before .before .before .before .before .before) .wide3 .ensures) ((c .before .before .before .before .before .before .before .before .before .before) .if1 .taken) in
+    round-on l more (there-is l more ((c .before .before .before .before .before .before .before .before .before .before .before) .wide3 .ensures) ((c .before .before .before .before .before .before .before .before) .wide4 .ensures)) ((c .before .before .before .before .before .before .before .before .before .before .before .before .before .before .before .before .before) .pre .1 .0) _ refl refl refl refl ((c .before .before .before .before .before .before) .wide6 .ensures) ((c .before .before .before .before .before .before .before .before .before .before .before .before .before) .wide .ensures) ((c .before .before .before .before .before .before .before .before .before .before .before .before) .wide2 .ensures) ((c .before .before .before .before .before) .bind .ensures .1) ((c .before .before .before .before .before) .bind .ensures .0) refl (omega (arith, (c .before .before .before .before .before .before .before .before .before .before .before) .wide3 .ensures, (c .before .before .before .before .before .before .before) .wide5 .ensures)) ((c .before .before) .go-on .ensures .1) ((c .before .before) .go-on .ensures .0)
 
 down-requires : tie.Need-down-requires
 down-requires c κs =
@@ -105,4 +120,4 @@ returns-2 c =
     λ l. round-up l (none-is l ((c .before .before .before .before .before .before .before .before) .wide .ensures) ((c .before .before .before .before .before .before .before) .wide2 .ensures) ((c .before .before .before .before .before .before) .wide3 .ensures) ((c .before .before .before .before .before) .if1 .left)) ((c .before .before .before .before .before .before .before) .wide2 .ensures) ((c .before .before .before) .down .ensures) ((c .before .before .before) .down .kept .0) ((c .before .before .before .before .before .before .before .before) .wide .ensures) refl (c .rise .ensures)
 
 pub round-spec : {M : Type 1} → statement M
-round-spec = tie.close (tie.spec wide-requires wide-requires-2 sub-k wide-requires-3 add-end mul-wide add-wide mul-wide-2 shared-slice-read-wide wide-requires-4 add-after add-after-2 cast-to wide-requires-5 bind-requires add-go-on go-on-requires same-length returns down-requires rise-requires same-length-2 returns-2)
+round-spec = tie.close (tie.spec wide-requires wide-requires-2 sub-k wide-requires-3 add-end mul-wide add-wide mul-wide-2 shared-slice-read-wide wide-requires-4 add-size wide-requires-5 add-end-of-tree cast-to add-after cast-next wide-requires-6 bind-requires add-go-on go-on-requires same-length returns down-requires rise-requires same-length-2 returns-2)
