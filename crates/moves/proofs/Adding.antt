@@ -1,6 +1,6 @@
--- An element's entry, bodies moved down, and answers that tell of more entries.
+-- An element's entry, and bodies moved down.
 -- Assumes nothing.
-use mathlib.Core.Path.{_≡_, refl, sym, ap, subst, _∙_}
+use mathlib.Core.Path.{_≡_, sym, ap, _∙_}
 use mathlib.Core.List.{List, [], _∷_, _++_, append-nil}
 use Prim.Native.Nat.{ℕ, _+_, _*_, _-_, _≤_}
 use native.Mathlib.Omega.{arith}
@@ -10,20 +10,10 @@ use Rattle.meaning.specs.Base.{zeros}
 use Rattle.meaning.specs.Forests.{Forest, end, tree, size, forestWords}
 use Rattle.words.specs.Tables.{stored}
 use Rattle.copies.specs.Fills.{Filled}
-use Rattle.copies.specs.declared.Made.{Made}
-use Rattle.copies.specs.declared.Made.the-variants as Made
 use Rattle.copies.proofs.Lent.{zeros-append}
-use Rattle.copies.proofs.Filling.{differ, filled-front, filled-blank}
-use Rattle.picks.specs.declared.Step.{Step}
-use Rattle.moves.specs.Moves.{raised, lifted, Wraps, Moves}
+use Rattle.copies.proofs.Filling.{filled-front, filled-blank}
+use Rattle.moves.specs.Moves.{Wraps, Moves}
 use Rattle.moves.proofs.Shifting.{moved, moved-length}
-
--- answers
-pub lifted-full : (k : ℕ) (part : Step) {m : ℕ} → part .made ≡ Made.Full m → part ≡ lifted k part
-lifted-full k part e = λ i. record { made = (e ∙ sym (ap (raised k) e)) i; scope = part .scope }
-
-pub lifted-done : (k : ℕ) (part : Step) {m : ℕ} → part .made ≡ Made.Done m → record { made = Made.Done (k + m); scope = part .scope } ≡ lifted k part
-lifted-done k part e = λ i. record { made = sym (ap (raised k) e) i; scope = part .scope }
 
 -- AN ELEMENT'S ENTRY
 wrapped : (ws us : List ℕ) (l k : ℕ) (f : Forest) → 3 * (1 + k) ≤ length ws → us ≡ stored ws (3 * 0) (65 ∷ l ∷ k ∷ []) → Filled (length ws - 3) (drop 3 ws) k f → Filled (length ws) us (1 + k) (tree l f end)
@@ -41,12 +31,8 @@ wrapped ws us l k f fits e h =
           ∙ ap (λ (x : List ℕ). 65 ∷ l ∷ size f ∷ (x ++ zeros (length ws - 3 * (1 + k)))) (sym (append-nil (forestWords f)));
     }
 
-module _ (ws us : List ℕ) (l : ℕ) (part : Step) {k : ℕ} where
-  pub wraps-full : part .made ≡ Made.Full k → Wraps ws us l part part
-  wraps-full e = record { step = lifted-full 1 part e; is = λ j f q h. differ (cc) }
-
-  pub wraps-done : part .made ≡ Made.Done k → 3 * (1 + k) ≤ length ws → us ≡ stored ws (3 * 0) (65 ∷ l ∷ k ∷ []) → Wraps ws us l part (record { made = Made.Done (1 + k); scope = part .scope })
-  wraps-done e fits s = record { step = lifted-done 1 part e; is = λ j f q h. let p : k ≡ j = cc in subst (λ (n : ℕ). Filled (length ws) us (1 + n) (tree l f end)) p (wrapped ws us l k f fits s (subst (λ (n : ℕ). Filled (length ws - 3) (drop 3 ws) n f) (sym p) h)) }
+pub wraps : (ws us : List ℕ) (l k : ℕ) → 3 * (1 + k) ≤ length ws → us ≡ stored ws (3 * 0) (65 ∷ l ∷ k ∷ []) → Wraps ws us l k
+wraps ws us l k fits s = record { is = λ f h. wrapped ws us l k f fits s h }
 
 -- BODIES MOVED DOWN: the words that were moved, and then zeros up to where they ended
 module _ (ws xs us : List ℕ) (k m : ℕ) (g : Forest) (fits : 3 * (k + m) ≤ length ws) (shifted : xs ≡ stored ws 0 (moved (3 * k) (3 * m) ws)) (h : Filled (length ws - 3 * k) (drop (3 * k) ws) m g) where
@@ -82,9 +68,5 @@ module _ (ws xs us : List ℕ) (k m : ℕ) (g : Forest) (fits : 3 * (k + m) ≤ 
             ∙ ap (λ (x : List ℕ). forestWords g ++ x) (zeros-append (3 * k) (length ws - 3 * k - 3 * m) ∙ ap zeros z);
       }
 
-module _ (ws us : List ℕ) (k : ℕ) (part : Step) {m : ℕ} where
-  pub moves-full : part .made ≡ Made.Full m → Moves ws us k part part
-  moves-full e = record { step = refl; is = λ j g q h. differ (cc) }
-
-  pub moves-done : {xs ys : List ℕ} (n : ℕ) → part .made ≡ Made.Done m → 3 * (k + m) ≤ length ws → xs ≡ stored ws 0 (moved (3 * k) (3 * m) ws) → ys ≡ zeros n → n ≡ 3 * k → us ≡ take (3 * m) xs ++ (ys ++ drop (3 * (k + m) - 3 * m) (drop (3 * m) xs)) → Moves ws us k part part
-  moves-done {xs} {ys} n e fits x y p s = record { step = refl; is = λ j g q h. let i : m ≡ j = cc in subst (λ (z : ℕ). Filled (length ws) us z g) i (moved-down ws xs us k m g fits x (subst (λ (z : ℕ). Filled (length ws - 3 * k) (drop (3 * k) ws) z g) (sym i) h) n y p s) }
+pub moves : (ws us : List ℕ) (k m : ℕ) {xs ys : List ℕ} (n : ℕ) → 3 * (k + m) ≤ length ws → xs ≡ stored ws 0 (moved (3 * k) (3 * m) ws) → ys ≡ zeros n → n ≡ 3 * k → us ≡ take (3 * m) xs ++ (ys ++ drop (3 * (k + m) - 3 * m) (drop (3 * m) xs)) → Moves ws us k m
+moves ws us k m {xs} n fits x y p s = record { is = λ g h. moved-down ws xs us k m g fits x h n y p s }

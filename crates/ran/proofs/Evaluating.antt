@@ -20,7 +20,6 @@ use Rattle.jobs.proofs.Checking.{padded-most}
 use Rattle.spans.specs.declared.Spans.{Spans}
 use Rattle.spans.proofs.Binding.{shows-below}
 use Rattle.copies.specs.declared.Made.{Made}
-use Rattle.copies.specs.declared.Made.the-variants as Made
 use Rattle.copies.specs.Fills.{Filled}
 use Rattle.copies.proofs.Lent.{zeros-append}
 use Rattle.copies.proofs.Filling.{filled-words}

@@ -69,18 +69,18 @@ fn spread(vars: &[u16], declared: usize, ends: &[u16]) -> Spans
     requires { ⌜ 3 * declared ≤ length (now vars) ⌝ ∗ ⌜ VarsRead 4096 (varsOf (now vars) declared) ⌝ ∗ ⌜ declared ≤ length (now ends) ⌝ }
     ensures { λ r. ⌜ Spread (varsOf (now (vars .entry)) declared) (now (ends .entry)) r ⌝ }
 {
-    let mut scope = Spans::empty();
+    let mut from = [0u16; 64];
+    let mut to = [0u16; 64];
     let mut i = declared;
     while 0 < i {
         i -= 1;
         let x = words::read_entry(vars, i);
         let v = words::wide(x.a);
-        let from = start(ends, i);
-        let to = ends[i];
-        let bound = scope.bind(v, Span { from, to });
-        scope = bound.scope;
+        let a = start(ends, i);
+        let e = ends[i];
+        spans::bind(&mut from, &mut to, v, Span { from: a, to: e });
     }
-    scope
+    Spans { from, to }
 }
 
 // Evaluates the query behind the first so many entries of the work table, which are the values. `held` and `stack` are scratch.

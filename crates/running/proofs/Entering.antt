@@ -1,20 +1,19 @@
 -- Down at a node, by its kind: it is done, or a part of it comes.
 -- Assumes nothing.
 use mathlib.Core.Path.{_≡_, refl, sym, ap, subst, _∙_}
-use mathlib.Core.Bool.{Bool, true, false, not}
+use mathlib.Core.Bool.{Bool, true, false}
 use mathlib.Core.List.{List, []}
 use Prim.Native.Nat.{ℕ, suc, _+_, _≤_, _<_}
 use native.Mathlib.Omega.{arith}
 use lib.ListN.{length, take, drop, take-append-drop}
-use borrow.Author.Tests.{not-false}
 use Rattle.meaning.specs.Forests.{Forest}
 use Rattle.meaning.specs.Queries as Queries
 use Rattle.meaning.specs.Queries.{Query, Cond, queryAt, condAt}
 use Rattle.meaning.specs.Running.{Env, eval, written}
 use Rattle.words.specs.Tables.{nodeIn, codeOf}
 use Rattle.spans.specs.declared.Spans.{Spans}
+use Rattle.copies.specs.declared.Made.{Made}
 use Rattle.copies.specs.declared.Made.the-variants as Made
-use Rattle.picks.specs.declared.Step.{Step}
 use Rattle.picks.specs.Picks.{Picks}
 use Rattle.truths.specs.Tells.{Tells}
 use Rattle.queries.specs.Says.{queryOf, Says}
@@ -22,9 +21,8 @@ use Rattle.queries.specs.declared.Query as Nodes
 use Rattle.queries.proofs.Named.{query-is}
 use Rattle.running.specs.declared.Frame.{Frame}
 use Rattle.running.specs.declared.Next.the-variants as Next
-use Rattle.running.specs.declared.Turn.{Turn}
-use Rattle.running.specs.Evaluates.{Ready, Evaluates, valued}
-use Rattle.running.specs.Machine.{Spot, spot, Answers, InFirst, Within, Steps, Guards, done, risen, framed, weight, still}
+use Rattle.running.specs.Evaluates.{Step, Ready, Evaluates, valued}
+use Rattle.running.specs.Machine.{Turn, Spot, spot, Answers, InFirst, Within, Steps, Guards, done, risen, framed, weight, still}
 use Rattle.running.proofs.Given.{begins-on, behind-first}
 use Rattle.running.proofs.Wholes.{nothing-leaves, picked, element-stops, when-none, places}
 use Rattle.running.proofs.Parts.{comes}
@@ -69,8 +67,8 @@ module _ {code : List ℕ} {nodes : ℕ} {s : Spans} {held rest : List ℕ} {at 
   leaf-done {q} e {us} {r} w long est et = done r (subst (λ (z : Query). Answers z here r held us) (sym e) (record { is = w; long = refl; wide = long })) est et
 
   -- a copy
-  pub copy-done : (q : Query) → query n ≡ q → (chosen : Env → Forest) → ((top : ℕ) (env : Env) → eval top q env at ≡ written top n at (chosen env)) → {us : List ℕ} {r : Step} → Picks s held (length rest) us n r chosen → length us ≡ length rest
-      → {most : ℕ} {st st' : List ℕ} {top : ℕ} {t : Turn} → st' ≡ st → t ≡ risen r at top → Steps code nodes most here held us st st' top t
+  pub copy-done : (q : Query) → query n ≡ q → (chosen : Env → Forest) → ((top : ℕ) (env : Env) → eval top q env at ≡ written top n at (chosen env)) → {us : List ℕ} {made : Made} → Picks s held (length rest) us n made chosen → length us ≡ length rest
+      → {most : ℕ} {st st' : List ℕ} {top : ℕ} {t : Turn} → st' ≡ st → t ≡ risen (record { made = made; scope = s }) at top → Steps code nodes most here held us st st' top t
   copy-done q e chosen law p long est et = leaf-done e (picked (h .begins) n chosen q law p) long est et
 
   -- ITS FIRST PART COMES
@@ -97,9 +95,9 @@ module _ {code : List ℕ} {nodes : ℕ} {s : Spans} {held rest : List ℕ} {at 
     unfolding weight still
     let-comes {v} {q} e = first-comes e (first-in (query i) refl) (omega arith)
 
-    pub when-comes : {c : Cond} → query n ≡ Queries.when n c (query i) → {u : Spans} {told : Bool} → u ≡ s → Tells (s .from) (s .to) held told c → not told ≡ false → Comes
+    pub when-comes : {c : Cond} → query n ≡ Queries.when n c (query i) → {told : Bool} → Tells (s .from) (s .to) held told c → told ≡ true → Comes
     unfolding weight still
-    when-comes e o w p = first-comes e (record { first = first-in (query i) refl; holds = λ env z. sym (w .is env z) ∙ not-false _ p }) (omega arith)
+    when-comes e w p = first-comes e (record { first = first-in (query i) refl; holds = λ env z. sym (w .is env z) ∙ p }) (omega arith)
 
   -- an element's body
   pub element-comes : {l : ℕ} (i : ℕ) → i < n → query n ≡ Queries.element n l (query i) → 3 ≤ length rest → {st st' : List ℕ} {top : ℕ} {t : Turn} → st' ≡ framed st top (fresh n at) → t ≡ record { next = Next.Down i (at + 1) (suc top); scope = s } → Steps code nodes (weight (query n)) here held rest st st' top t
@@ -120,16 +118,13 @@ module _ {code : List ℕ} {nodes : ℕ} {s : Spans} {held rest : List ℕ} {at 
   pub nothing-done : query n ≡ Queries.nothing n → {most : ℕ} {st st' : List ℕ} {top : ℕ} {t : Turn} → st' ≡ st → t ≡ risen (record { made = Made.Done 0; scope = s }) at top → Steps code nodes most here held rest st st' top t
   nothing-done e est et = leaf-done e (nothing-leaves (h .begins) n refl) refl est et
 
-  pub when-done : {c : Cond} {q : Query} → query n ≡ Queries.when n c q → {u : Spans} {told : Bool} → u ≡ s → Tells (s .from) (s .to) held told c → not told ≡ true → {most : ℕ} {st st' : List ℕ} {top : ℕ} {t : Turn} → st' ≡ st → t ≡ risen (record { made = Made.Done 0; scope = u }) at top → Steps code nodes most here held rest st st' top t
-  when-done {c} {q} e o w p est et = leaf-done e (when-none (h .begins) n c q o w refl p) refl est et
+  pub when-done : {c : Cond} {q : Query} → query n ≡ Queries.when n c q → {told : Bool} → Tells (s .from) (s .to) held told c → told ≡ false → {most : ℕ} {st st' : List ℕ} {top : ℕ} {t : Turn} → st' ≡ st → t ≡ risen (record { made = Made.Done 0; scope = s }) at top → Steps code nodes most here held rest st st' top t
+  when-done {c} {q} e w p est et = leaf-done e (when-none (h .begins) n c q w refl p) refl est et
 
   -- what a when is given
   pub guards : {p : ℕ} → p < n → Guards code nodes s held at n p
   guards l = record { coded = h .coded; low = h .low; lower = l; places = places (h .begins); few = omega (arith, h .begins .few) }
 
--- the same condition, and the same scope, under other names
+-- the same condition under another name
 pub tells-at : (code : List ℕ) (nodes i p : ℕ) {from to held : List ℕ} {told : Bool} → i ≡ p → Tells from to held told (condAt (codeOf code nodes) i) → Tells from to held told (condAt (codeOf code nodes) p)
 tells-at code nodes i p {from} {to} {held} {told} e h = subst (λ (j : ℕ). Tells from to held told (condAt (codeOf code nodes) j)) e h
-
-pub begun-as : (i at top : ℕ) {s u : Spans} → u ≡ s → _≡_ {A = Turn} (record { next = Next.Down i at top; scope = u }) (record { next = Next.Down i at top; scope = s })
-begun-as i at top e = ap (λ (z : Spans). record { next = Next.Down i at top; scope = z }) e

@@ -10,9 +10,9 @@ use Rattle.words.specs.Tables.{stored}
 use Rattle.words.specs.declared.Entry.{Entry}
 use Rattle.spans.specs.declared.Spans.{Spans}
 use Rattle.running.specs.declared.Frame.{Frame}
+use Rattle.running.specs.declared.Next.{Next}
 use Rattle.running.specs.declared.Next.the-variants as Next
-use Rattle.running.specs.declared.Turn.{Turn}
-use Rattle.running.specs.Machine.{frameIn, framed}
+use Rattle.running.specs.Machine.{turn, frameIn, framed}
 
 -- A WORD of what was stored, and one before it
 stored-in : (t ws : List ℕ) (at i : ℕ) → at ≤ length t → i < length ws → getD (stored t at ws) (at + i) 0 ≡ getD ws i 0
@@ -91,11 +91,15 @@ pub framed-is : (st : List ℕ) (i : ℕ) (f : Frame) {ws us : List ℕ} → ws 
 unfolding framed
 framed-is st i f e h = h ∙ ap (λ (ws : List ℕ). stored ws (3 * (2 * i + 1)) (f .next ∷ f .hides .from ∷ f .hides .to ∷ [])) e
 
-pub went : (at : ℕ) (s : Spans) {n part i j : ℕ} → n ≡ part → j ≡ suc i → _≡_ {A = Turn} (record { next = Next.Down n at j; scope = s }) (record { next = Next.Down part at (suc i); scope = s })
-went at s {n} {part} {i} {j} e h = ap (λ (m : ℕ). record { next = Next.Down m at j; scope = s }) e ∙ ap (λ (m : ℕ). record { next = Next.Down part at m; scope = s }) h
+pub went : (at : ℕ) {n part i j : ℕ} → n ≡ part → j ≡ suc i → Next.Down n at j ≡ Next.Down part at (suc i)
+went at {n} {part} {i} {j} e h = ap (λ (m : ℕ). Next.Down m at j) e ∙ ap (λ (m : ℕ). Next.Down part at m) h
 
 -- a frame that was read, in two entries
 pub frame-read : (st : List ℕ) (i : ℕ) {x y : Entry} → x ≡ record { kind = getD st (3 * (2 * i)) 0; a = getD st (3 * (2 * i) + 1) 0; b = getD st (3 * (2 * i) + 2) 0 } → y ≡ record { kind = getD st (3 * (2 * i + 1)) 0; a = getD st (3 * (2 * i + 1) + 1) 0; b = getD st (3 * (2 * i + 1) + 2) 0 }
     → _≡_ {A = Frame} (record { node = x .kind; base = x .a; kept = x .b; next = y .kind; hides = record { from = y .a; to = y .b } }) (frameIn st i)
 unfolding frameIn
 frame-read st i e h = frame-is (ap (λ (z : Entry). z .kind) e) (ap (λ (z : Entry). z .a) e) (ap (λ (z : Entry). z .b) e) (ap (λ (z : Entry). z .kind) h) (ap (λ (z : Entry). z .a) h) (ap (λ (z : Entry). z .b) h)
+
+-- the same step under another name
+pub turned : (s : Spans) {a b : Next} → a ≡ b → turn a s ≡ turn b s
+turned s e = ap (λ (z : Next). turn z s) e

@@ -17,9 +17,8 @@ use Rattle.copies.proofs.Lent.{lent, back, back-length}
 use Rattle.running.specs.declared.Frame.{Frame}
 use Rattle.running.specs.declared.Next.{Next}
 use Rattle.running.specs.declared.Next.the-variants as Next
-use Rattle.running.specs.declared.Turn.{Turn}
 use Rattle.running.specs.Evaluates.{Ready, Evaluated}
-use Rattle.running.specs.Machine.{Spot, spot, Given, Answers, Inner, Steps, Back, done, begun, frameIn, framed, weight, still, half}
+use Rattle.running.specs.Machine.{Turn, Spot, spot, Given, Answers, Inner, Steps, Back, done, begun, frameIn, framed, weight, still, half}
 use Rattle.running.proofs.Leaving.{left-full, full-is}
 use Rattle.running.proofs.Frames.{frame-same, frame-other}
 use Rattle.running.proofs.Inside.{topOf, Stops, within-placed, within-stops}

@@ -18,7 +18,7 @@ use Rattle.spans.specs.Shows.{bound, part, Shows}
 use Rattle.spans.proofs.Binding.{shows-bind, shows-below}
 use Rattle.copies.specs.Fills.{first}
 use Rattle.running.specs.declared.Frame.{Frame}
-use Rattle.running.specs.Evaluates.{Begins, Among, Rounds, looped}
+use Rattle.running.specs.Evaluates.{Begins, Among, looped}
 use Rattle.running.specs.Machine.{Spot, spot, Given, Gave, holding, Half, InFirst, InElement, InPair, InLet, InFor, Within}
 use Rattle.running.proofs.Given.{Behind, begins-on, top-same}
 use Rattle.running.proofs.Leaving.{left-done, element-is, pair-is, let-is, for-is, pair-not, let-not, for-not, when-is}

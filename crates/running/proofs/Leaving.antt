@@ -19,9 +19,8 @@ use Rattle.copies.specs.Fills.{first, Filled, Copied}
 use Rattle.copies.proofs.Lent.{back}
 use Rattle.copies.proofs.Filling.{differ, behind-filled}
 use Rattle.copies.proofs.Firsts.{others}
-use Rattle.picks.specs.declared.Step.{Step}
-use Rattle.moves.specs.Moves.{raised, Wraps, Moves}
-use Rattle.running.specs.Evaluates.{Left, done, full}
+use Rattle.moves.specs.Moves.{Wraps, Moves}
+use Rattle.running.specs.Evaluates.{Step, Left, done, full}
 
 -- BY THE ANSWER
 pub record Got (room : ℕ) (us : List ℕ) (k : ℕ) (o : Out Forest) : Type 0 where
@@ -52,6 +51,14 @@ left-written {room} {f = f} at (Fills.full h) = rw (lt-leb (at + size f) (at + r
 pub laid-behind : {room k m : ℕ} {us vs : List ℕ} {f g : Forest} → Filled room us k f → Filled (room - 3 * k) vs m g → Filled room (take (3 * k) us ++ vs) (k + m) (join f g)
 laid-behind {room} {k} {m} {us} {vs} {f} {g} h i = subst (λ (ws : List ℕ). Filled room ws (k + m) (join f g)) (back (3 * k) us vs) (behind-filled h i)
 
+-- the answer with k entries more
+abbrev pub raised : ℕ → Made → Made
+raised k (Made.Done m) = Made.Done (k + m)
+raised k (Made.Full n) = Made.Full n
+
+abbrev pub lifted : ℕ → Step → Step
+lifted k part = record { made = raised k (part .made); scope = part .scope }
+
 pub left-join : {room k : ℕ} {us vs : List ℕ} {f : Forest} {r : Made} {o : Out Forest} → Filled room us k f → Left (room - 3 * k) vs r o → Left room (take (3 * k) us ++ vs) (raised k r) (o >>= λ g. ok (join f g))
 left-join h (done i) = done (laid-behind h i)
 left-join h full = full
@@ -60,23 +67,19 @@ left-join h full = full
 pub left-made : {room : ℕ} {us : List ℕ} {r t : Made} {o : Out Forest} → r ≡ t → Left room us t o → Left room us r o
 left-made {room} {us} {o = o} e h = subst (λ (x : Made). Left room us x o) (sym e) h
 
--- AN ELEMENT'S ENTRY before a body that stands behind it
-wrap-part : {ws us : List ℕ} {l : ℕ} {part : Step} {o : Out Forest} {m : Made} {r : Step} → Wraps ws us l part r → part .made ≡ m → Left (length ws - 3) (drop 3 ws) m o → Left (length ws) us (raised 1 m) (o >>= λ f. ok (tree l f end))
-wrap-part w e (done {k = k} {f = f} h) = done (w .is k f e h)
-wrap-part w e full = full
+-- AN ELEMENT'S ENTRY before a body of k entries that stands behind it
+pub left-wrap : {ws us vs : List ℕ} {room l k : ℕ} {o : Out Forest} → length ws ≡ room → drop 3 ws ≡ vs → Wraps ws us l k → Left (room - 3) vs (Made.Done k) o → Left room us (Made.Done (1 + k)) (o >>= λ f. ok (tree l f end))
+left-wrap {ws} {us} {room = room} {l} {k} n e w h =
+    let g = left-done refl h in
+    left-as (ap (λ (y : Out Forest). y >>= λ f. ok (tree l f end)) (g .is))
+    (done (subst (λ (j : ℕ). Filled j us (1 + k) (tree l (g .forest) end)) n (w .is (g .forest) (subst (λ (j : ℕ). Filled (j - 3) (drop 3 ws) k (g .forest)) (sym n) (subst (λ (x : List ℕ). Filled (room - 3) x k (g .forest)) (sym e) (g .filled))))))
 
-pub left-wrap : {ws us vs : List ℕ} {room l : ℕ} {part r : Step} {o : Out Forest} → length ws ≡ room → drop 3 ws ≡ vs → Wraps ws us l part r → Left (room - 3) vs (part .made) o → Left room us (r .made) (o >>= λ f. ok (tree l f end))
-left-wrap {ws} {us} {room = room} {l} {part} {o = o} n e w h =
-    left-made (ap (λ (s : Step). s .made) (w .step)) (subst (λ (j : ℕ). Left j us (raised 1 (part .made)) (o >>= λ f. ok (tree l f end))) n (wrap-part w refl (subst (λ (j : ℕ). Left (j - 3) (drop 3 ws) (part .made) o) (sym n) (subst (λ (x : List ℕ). Left (room - 3) x (part .made) o) (sym e) h))))
-
--- BODIES MOVED DOWN over k entries that they stand behind
-move-part : {ws us : List ℕ} {k : ℕ} {part : Step} {o : Out Forest} {m : Made} {r : Step} → Moves ws us k part r → part .made ≡ m → Left (length ws - 3 * k) (drop (3 * k) ws) m o → Left (length ws) us m o
-move-part w e (done {k = m} {f = f} h) = done (w .is m f e h)
-move-part w e full = full
-
-pub left-move : (k : ℕ) {ws us vs : List ℕ} {room : ℕ} {part r : Step} {o : Out Forest} → length ws ≡ room → drop (3 * k) ws ≡ vs → Moves ws us k part r → Left (room - 3 * k) vs (part .made) o → Left room us (r .made) o
-left-move k {ws} {us} {room = room} {part} {o = o} n e w h =
-    left-made (ap (λ (s : Step). s .made) (w .step)) (subst (λ (j : ℕ). Left j us (part .made) o) n (move-part w refl (subst (λ (j : ℕ). Left (j - 3 * k) (drop (3 * k) ws) (part .made) o) (sym n) (subst (λ (x : List ℕ). Left (room - 3 * k) x (part .made) o) (sym e) h))))
+-- BODIES of m entries MOVED DOWN over k that they stand behind
+pub left-move : (k : ℕ) {ws us vs : List ℕ} {room m : ℕ} {o : Out Forest} → length ws ≡ room → drop (3 * k) ws ≡ vs → Moves ws us k m → Left (room - 3 * k) vs (Made.Done m) o → Left room us (Made.Done m) o
+left-move k {ws} {us} {room = room} {m} n e w h =
+    let g = left-done refl h in
+    left-as (g .is)
+    (done (subst (λ (j : ℕ). Filled j us m (g .forest)) n (w .is (g .forest) (subst (λ (j : ℕ). Filled (j - 3 * k) (drop (3 * k) ws) m (g .forest)) (sym n) (subst (λ (x : List ℕ). Filled (room - 3 * k) x m (g .forest)) (sym e) (g .filled))))))
 
 -- WHAT A QUERY MEANS when its parts are known
 module _ (top n : ℕ) (env : Env) (at : ℕ) where

@@ -12,12 +12,10 @@ use Rattle.words.specs.Tables.{codeOf}
 use Rattle.spans.specs.declared.Spans.{Spans}
 use Rattle.copies.specs.declared.Made.{Made}
 use Rattle.copies.specs.declared.Made.the-variants as Made
-use Rattle.picks.specs.declared.Step.{Step}
 use Rattle.running.specs.declared.Frame.{Frame}
 use Rattle.running.specs.declared.Next.the-variants as Next
-use Rattle.running.specs.declared.Turn.{Turn}
-use Rattle.running.specs.Evaluates.{Begins, Rounds}
-use Rattle.running.specs.Machine.{Spot, spot, Given, Answers, Gave, Half, Within, Steps, done, begun, framed, weight, still, half}
+use Rattle.running.specs.Evaluates.{Step, Begins, Rounds}
+use Rattle.running.specs.Machine.{Turn, Spot, spot, Given, Answers, Gave, Half, Within, Steps, done, begun, framed, weight, still, half}
 
 -- the same answer under other names
 pub answers-as : {p q : Query} {x : Spot} {t : Step} {after us : List ℕ} → p ≡ q → Answers p x t after us → Answers q x t after us
@@ -47,10 +45,6 @@ one-less {n} h = some-less n h
 -- how many entries the bodies of a for have
 pub body-count : {b base c kept : ℕ} → b ≡ base → c ≡ kept → kept ≢ 0 → (at k : ℕ) → at - (b + c - 1) + k ≡ at - (base + (kept - 1)) + k
 body-count {kept = kept} e h n at k = omega (arith, one-less {n = kept} n)
-
--- both parts are no more than there is room for
-pub both-fit : {i j k : ℕ} → i ≡ j → j + k ≤ 8193 → 0 < j → (m : ℕ) → Made.Done k ≡ Made.Done m → i - 1 + m ≤ 8192
-both-fit {k = k} e h l m d = let p : k ≡ m = cc in omega arith
 
 -- HOW MUCH is left of a node with two parts
 pub half-at-first : {n : ℕ} (a : ℕ) (b : ℕ → ℕ) → n ≡ 0 → half n a b ≡ a

@@ -14,22 +14,20 @@ use Rattle.meaning.specs.Running.{eval}
 use Rattle.words.specs.Tables.{stored, nodeIn, codeOf}
 use Rattle.spans.specs.declared.Span.{Span}
 use Rattle.spans.specs.declared.Spans.{Spans}
-use Rattle.spans.specs.Shows.{bound, part}
+use Rattle.spans.specs.Shows.{standing, bound, part}
 use Rattle.copies.specs.declared.Made.{Made}
 use Rattle.copies.specs.declared.Made.the-variants as Made
-use Rattle.picks.specs.declared.Step.{Step}
-use Rattle.moves.specs.Moves.{lifted, Room, Wraps, Moves}
+use Rattle.moves.specs.Moves.{Room, Wraps, Moves}
 use Rattle.queries.specs.Says.{queryOf, Says}
 use Rattle.queries.specs.declared.Query as Nodes
 use Rattle.queries.proofs.Query as Kinds
 use Rattle.queries.proofs.Named.{query-is}
 use Rattle.running.specs.declared.Frame.{Frame}
 use Rattle.running.specs.declared.Next.the-variants as Next
-use Rattle.running.specs.declared.Turn.{Turn}
-use Rattle.running.specs.Evaluates.{Rounds, bodied}
-use Rattle.running.specs.Machine.{Spot, spot, Given, Answers, Gave, standing, holding, InFirst, InElement, InWhen, InPair, InLet, InFor, Within, Steps, Returns, Looping, done, begun, risen, framed, weight, still}
+use Rattle.running.specs.Evaluates.{Step, Rounds, bodied}
+use Rattle.running.specs.Machine.{Turn, Spot, spot, Answers, Gave, holding, InFirst, InElement, InWhen, InPair, InLet, InFor, Within, Steps, Returns, Looping, done, risen, framed, weight, still}
 use Rattle.running.proofs.Given.{begins-on, begins-bind}
-use Rattle.running.proofs.Leaving.{Got, left-as, when-is, let-is}
+use Rattle.running.proofs.Leaving.{Got, lifted, left-as, when-is, let-is}
 use Rattle.running.proofs.Wholes.{over-length, part-got, element-leaves, element-room, pair-leaves, bound-leaves, inside-leaves}
 use Rattle.running.proofs.Rounds.{rounds-start, turn-behind, turn-next}
 use Rattle.running.proofs.Inside.{half-first, half-second, Placed, within-placed, had-fits, had-front, held-long, had-among, second-begins, held-begins, few-entries}
@@ -76,13 +74,13 @@ module _ {code : List ℕ} {nodes : ℕ} {f : Frame} {x : Spot} {pre : List ℕ}
     part-is : rest ≡ take 3 (x .rest) ++ r .vs
     part-is = r .part ∙ ap (λ (ws : List ℕ). ws ++ r .vs) (inside-element .front)
 
-    pub element-space : Room (length rest) 1 (Made.Done k)
-    element-space = subst (λ (ws : List ℕ). Room (length ws) 1 (Made.Done k)) (sym part-is) (element-room (r .given .begins) n l q (inside-element .room) (body .is) (body .wide))
+    pub element-space : Room (length rest) 1 k
+    element-space = subst (λ (ws : List ℕ). Room (length ws) 1 k) (sym part-is) (element-room (r .given .begins) n l q (inside-element .room) (body .is) (body .wide))
 
-    pub element-up : {t : Step} {us : List ℕ} → Wraps rest us l step t → length us ≡ length rest → Answers (queryAt C (x .node)) x t held us
-    element-up {t} {us} w long =
+    pub element-up : {us : List ℕ} → Wraps rest us l k → length us ≡ length rest → Answers (queryAt C (x .node)) x (record { made = Made.Done (1 + k); scope = s }) held us
+    element-up {us} w long =
         answers-as (sym e) (record {
-          is = element-leaves (r .given .begins) n l q (inside-element .room) (body .is) (body .wide) (subst (λ (ws : List ℕ). Wraps ws us l step t) part-is w);
+          is = element-leaves (r .given .begins) n l q (inside-element .room) (body .is) (body .wide) (subst (λ (ws : List ℕ). Wraps ws us l k) part-is w);
           long = body .long;
           wide = long ∙ returns-wide;
         })
@@ -162,12 +160,8 @@ module _ {code : List ℕ} {nodes : ℕ} {f : Frame} {x : Spot} {pre : List ℕ}
         go (suc first) h = omega (arith, returns-low, r .from, returns-placed .place, ap length (inside-pair h .front) ∙ had-front (r .given) (inside-pair h .gave))
 
   -- what is made has room behind the words before it
-  pub room-behind : (first : ℕ) → length pre ≡ 3 * first → Room (length rest) first (Made.Done k)
-  room-behind first e =
-      record {
-        few = omega (arith, returns-wide, r .given .begins .few, r .given .begins .whole);
-        is = λ m d. let j : k ≡ m = cc in omega (arith, returns-wide, returns-fits, j);
-      }
+  pub room-behind : (first : ℕ) → length pre ≡ 3 * first → Room (length rest) first k
+  room-behind first e = record { few = omega (arith, returns-wide, r .given .begins .few, r .given .begins .whole); fits = omega (arith, returns-wide, returns-fits) }
 
   -- LET
   module _ {n v : ℕ} {p q : Query} (e : queryAt C (x .node) ≡ Queries.let-in n v p q) where
@@ -175,16 +169,16 @@ module _ {code : List ℕ} {nodes : ℕ} {f : Frame} {x : Spot} {pre : List ℕ}
       inside-let : InLet C v p q first f x pre y
       inside-let = half-second (InFirst C p x pre y) (λ i. InLet C v p q i f x pre y) first kept (within-as e)
 
-      pub let-space : {c : ℕ} → c ≡ f .kept → Room (length rest) (c - 1) (Made.Done k)
-      let-space {c} ec = let less : first ≡ c - 1 = omega (arith, ec, kept) in subst (λ (i : ℕ). Room (length rest) i (Made.Done k)) less (room-behind first (ap length (inside-let .front) ∙ had-front (r .given) (inside-let .gave)))
+      pub let-space : {c : ℕ} → c ≡ f .kept → Room (length rest) (c - 1) k
+      let-space {c} ec = let less : first ≡ c - 1 = omega (arith, ec, kept) in subst (λ (i : ℕ). Room (length rest) i k) less (room-behind first (ap length (inside-let .front) ∙ had-front (r .given) (inside-let .gave)))
 
-      pub let-up : {i c : ℕ} → i ≡ v → c ≡ f .kept → {u : Spans} {us : List ℕ} {t : Step} → u ≡ bound s i (f .hides) → Moves rest us (c - 1) (record { made = Made.Done k; scope = u }) t → length us ≡ length rest → Answers (queryAt C (x .node)) x t held us
-      let-up {i} {c} ei ec {u} {us} {t} unbound moves long =
+      pub let-up : {i c : ℕ} → i ≡ v → c ≡ f .kept → {u : Spans} {us : List ℕ} → u ≡ bound s i (f .hides) → Moves rest us (c - 1) k → length us ≡ length rest → Answers (queryAt C (x .node)) x (record { made = Made.Done k; scope = u }) held us
+      let-up {i} {c} ei ec {u} {us} unbound moves long =
           let less : c - 1 ≡ first = omega (arith, ec, kept) in
           let h = inside-let in
           let g = h .gave in
           let a = answers-as (h .part) (answers-at (h .is) (r .answers)) in
-          let z = subst (λ (ws : List ℕ). Moves ws us first (record { made = Made.Done k; scope = u }) t) (r .part ∙ ap (λ (ws : List ℕ). ws ++ r .vs) (h .front)) (subst (λ (j : ℕ). Moves rest us j (record { made = Made.Done k; scope = u }) t) less moves) in
+          let z = subst (λ (ws : List ℕ). Moves ws us first k) (r .part ∙ ap (λ (ws : List ℕ). ws ++ r .vs) (h .front)) (subst (λ (j : ℕ). Moves rest us j k) less moves) in
           answers-as (sym e) (record {
             is = bound-leaves (r .given .begins) p (Queries.let-in n v p q) (λ y. bodied v y q) (g .is) refl (g .long) (g .wide) refl (held-long (r .given) g) (λ top env y i c. let-is top n env (x .at) p q i c v) (inside-leaves (held-begins (r .given) g) (record { from = x .at; to = x .at + first }) (f .hides) q (h .few) refl refl (h .hides) (unbound ∙ ap (λ (j : ℕ). bound s j (f .hides)) ei) (a .is)) (a .wide) z;
             long = a .long ∙ held-long (r .given) g ∙ g .long;

@@ -10,16 +10,14 @@ use Rattle.meaning.specs.Queries.{Query, queryAt}
 use Rattle.words.specs.Tables.{codeOf}
 use Rattle.spans.specs.declared.Span.{Span}
 use Rattle.spans.specs.declared.Spans.{Spans}
-use Rattle.spans.specs.Shows.{bound, part}
+use Rattle.spans.specs.Shows.{standing, bound, part}
 use Rattle.copies.specs.declared.Made.{Made}
 use Rattle.copies.specs.declared.Made.the-variants as Made
-use Rattle.picks.specs.declared.Step.{Step}
 use Rattle.moves.specs.Moves.{Room, Moves}
 use Rattle.running.specs.declared.Frame.{Frame}
 use Rattle.running.specs.declared.Next.the-variants as Next
-use Rattle.running.specs.declared.Turn.{Turn}
-use Rattle.running.specs.Evaluates.{Begins, Among, Rounds, looped}
-use Rattle.running.specs.Machine.{Spot, spot, Given, standing, holding, InFirst, InFor, Within, Steps, Looping, done, risen, framed, weight, still}
+use Rattle.running.specs.Evaluates.{Step, Begins, Among, Rounds, looped}
+use Rattle.running.specs.Machine.{Turn, Spot, spot, holding, InFirst, InFor, Within, Steps, Looping, done, risen, framed, weight, still}
 use Rattle.running.proofs.Given.{begins-on, begins-bind}
 use Rattle.running.proofs.Leaving.{for-is}
 use Rattle.running.proofs.Wholes.{over-length, bound-leaves}
@@ -62,16 +60,16 @@ module _ {v q : ℕ} {f : Frame} {m : ℕ} {s : Spans} {held rest : List ℕ} (l
   pub loop-inside : 3 * (f .base + l .k) ≤ length held
   loop-inside = omega (arith, l .base, had-fits (l .given) (l .gave), l .given .begins .room, l .given .begins .whole, loop-held)
 
-  loop-room : Room (length rest) (l .k) (Made.Done m)
-  loop-room = record { few = omega (arith, loop-wide, l .given .begins .few, l .given .begins .whole); is = λ j d. let i : m ≡ j = cc in omega (arith, loop-wide, loop-words, i) }
+  loop-room : Room (length rest) (l .k) m
+  loop-room = record { few = omega (arith, loop-wide, l .given .begins .few, l .given .begins .whole); fits = omega (arith, loop-wide, loop-words) }
 
   -- the source's entries, as the code has them
   module _ {c : ℕ} (ec : c ≡ f .kept) where
     pub source-is : c - 1 ≡ l .k
     source-is = omega (arith, l .kept)
 
-    pub loop-space : Room (length rest) (c - 1) (Made.Done m)
-    loop-space = subst (λ (i : ℕ). Room (length rest) i (Made.Done m)) (sym source-is) loop-room
+    pub loop-space : Room (length rest) (c - 1) m
+    loop-space = subst (λ (i : ℕ). Room (length rest) i m) (sym source-is) loop-room
 
   module _ {b c j : ℕ} (eb : b ≡ f .base) (ec : c ≡ f .kept) (ej : j ≡ f .next) where
     pub more-is : j < b + (c - 1) → f .next < f .base + l .k
@@ -81,11 +79,12 @@ module _ {v q : ℕ} {f : Frame} {m : ℕ} {s : Spans} {held rest : List ℕ} (l
     none-is h = omega (arith, source-is ec)
 
   -- there is no tree any more
-  pub round-up : f .base + l .k ≤ f .next → {c : ℕ} → c ≡ f .kept → {us : List ℕ} {t : Step} → Moves rest us (c - 1) (record { made = Made.Done m; scope = s }) t → length us ≡ length rest
-      → {base : ℕ} → base ≡ f .base → {most : ℕ} {st st' : List ℕ} {top : ℕ} {u : Turn} → st' ≡ st → u ≡ risen t base top → Steps (l .code) (l .nodes) most x held us st st' top u
-  round-up end ec {us} {t} moves long eb {top = top} est eu =
+  pub round-up : f .base + l .k ≤ f .next → {c : ℕ} → c ≡ f .kept → {us : List ℕ} → Moves rest us (c - 1) m → length us ≡ length rest
+      → {base : ℕ} → base ≡ f .base → {most : ℕ} {st st' : List ℕ} {top : ℕ} {u : Turn} → st' ≡ st → u ≡ risen (record { made = Made.Done m; scope = s }) base top → Steps (l .code) (l .nodes) most x held us st st' top u
+  round-up end ec {us} moves long eb {top = top} est eu =
       let g = l .gave in
-      let z = subst (λ (ws : List ℕ). Moves ws us (l .k) (record { made = Made.Done m; scope = s }) t) (l .part) (subst (λ (i : ℕ). Moves rest us i (record { made = Made.Done m; scope = s }) t) (source-is ec) moves) in
+      let t : Step = record { made = Made.Done m; scope = s } in
+      let z = subst (λ (ws : List ℕ). Moves ws us (l .k) m) (l .part) (subst (λ (i : ℕ). Moves rest us i m) (source-is ec) moves) in
       done t (answers-as (sym (l .is)) (record {
         is = bound-leaves (l .given .begins) (l .first) (Queries.for (x .node) v (l .first) now) (λ y. looped v y now) (g .is) refl (g .long) (g .wide) refl (held-long (l .given) g) (λ top env y i c. for-is top (x .node) env (x .at) (l .first) now i c v) (rounds-end source among (l .rounds) (omega (arith, l .base))) bodies-long z;
         long = loop-held;

@@ -18,8 +18,7 @@ use Rattle.copies.specs.declared.Made.the-variants as Made
 use Rattle.copies.specs.Fills.{first, Filled}
 use Rattle.copies.proofs.Filling.{filled-none, filled-length, filled-blank}
 use Rattle.copies.proofs.Firsts.{others, some, stretch-none, tree-size, tree-inside, tree-words, others-words}
-use Rattle.picks.specs.declared.Step.{Step}
-use Rattle.running.specs.Evaluates.{Begins, Among, done, Evaluates, bodied, looped, Rounds}
+use Rattle.running.specs.Evaluates.{Step, Begins, Among, done, Evaluates, bodied, looped, Rounds}
 use Rattle.running.proofs.Given.{Behind}
 use Rattle.running.proofs.Leaving.{left-done, left-as, laid-behind, each-first}
 use Rattle.running.proofs.Wholes.{behind-left, behind-kept, behind-below}

@@ -1,13 +1,12 @@
 -- A query's evaluation from those of its parts, as the members of the cycle do it.
 -- Assumes nothing.
 use mathlib.Core.Path.{_≡_, refl, sym, ap, subst, _∙_}
-use mathlib.Core.Bool.{Bool, true, not}
+use mathlib.Core.Bool.{Bool, false}
 use mathlib.Core.List.{List, _∷_, _++_}
 use Prim.Native.Nat.{ℕ, _+_, _*_, _-_, _/_, _≤_, _<_}
 use native.Mathlib.Omega.{arith}
 use lib.ListN.{length, take, drop, length-append, length-drop}
 use lib.Seq.{drop-at, length-take-le}
-use borrow.Author.Tests.{not-true}
 use Rattle.meaning.specs.Base.{Out, ok}
 use Rattle.meaning.specs.Forests.{Forest, size, forestWords}
 use Rattle.meaning.specs.Queries as Queries
@@ -22,13 +21,12 @@ use Rattle.copies.specs.declared.Made.{Made}
 use Rattle.copies.specs.declared.Made.the-variants as Made
 use Rattle.copies.specs.Fills.{Filled}
 use Rattle.copies.proofs.Filling.{filled-none, filled-blank}
-use Rattle.picks.specs.declared.Step.{Step}
 use Rattle.picks.specs.Picks.{Picks, Within}
-use Rattle.moves.specs.Moves.{lifted, Room, Wraps, Moves}
+use Rattle.moves.specs.Moves.{Room, Wraps, Moves}
 use Rattle.truths.specs.Tells.{Places, Tells}
-use Rattle.running.specs.Evaluates.{Begins, Among, Left, done, full, Evaluates, valued, bodied}
+use Rattle.running.specs.Evaluates.{Step, Begins, Among, Left, done, full, Evaluates, valued, bodied}
 use Rattle.running.proofs.Given.{fewer, Behind, behind-words, top-same, behind-first, held-below, held-part, held-among}
-use Rattle.running.proofs.Leaving.{Got, left-done, left-as, left-made, left-written, left-join, left-wrap, left-move, nothing-is, element-is, element-not, pair-is, when-not}
+use Rattle.running.proofs.Leaving.{Got, lifted, left-done, left-as, left-made, left-written, left-join, left-wrap, left-move, nothing-is, element-is, element-not, pair-is, when-not}
 
 -- a scope that was handed back shows what it showed
 again : {held : List ℕ} {s t : Spans} {env : Env} → t ≡ s → Shows held s env → Shows held t env
@@ -51,8 +49,8 @@ module _ {s : Spans} {held rest : List ℕ} {at : ℕ} (b : Begins s held rest a
   nothing-leaves n u = record { kept = refl; below = refl; is = λ env h. left-as (nothing-is (at + length rest / 3) n env at) (done (filled-none (u ∙ b .blank))) }
 
   -- A COPY
-  pub picked : {us : List ℕ} {r : Step} (n : ℕ) (chosen : Env → Forest) (q : Query) → ((top : ℕ) (env : Env) → eval top q env at ≡ written top n at (chosen env)) → Picks s held (length rest) us n r chosen → Evaluates s held held (length rest) us at r (valued q)
-  picked n chosen q law p = record { kept = p .kept; below = refl; is = λ env h. left-as (law (at + length rest / 3) env) (left-written at (p .is env h)) }
+  pub picked : {us : List ℕ} {made : Made} (n : ℕ) (chosen : Env → Forest) (q : Query) → ((top : ℕ) (env : Env) → eval top q env at ≡ written top n at (chosen env)) → Picks s held (length rest) us n made chosen → Evaluates s held held (length rest) us at (record { made = made; scope = s }) (valued q)
+  picked n chosen q law p = record { kept = refl; below = refl; is = λ env h. left-as (law (at + length rest / 3) env) (left-written at (p .is env h)) }
 
   -- WHAT STANDS BEHIND k entries, in the same work table
   module _ {t : Spans} {after last ws vs : List ℕ} {k : ℕ} {r : Step} {o : ℕ → Env → ℕ → Out Forest} (x : Behind s held rest at k t after ws) (w : Evaluates t after last (length ws) vs (at + k) r o) where
@@ -67,8 +65,8 @@ module _ {s : Spans} {held rest : List ℕ} {at : ℕ} (b : Begins s held rest a
     pub behind-below : take (3 * at) last ≡ take (3 * at) held
     behind-below = fewer after last (at + k) at (omega arith) (w .below) ∙ x .kept
 
-    pub behind-room : Room (length rest) k (r .made)
-    behind-room = record { few = omega (arith, b .few, b .whole); is = λ m e. let g = left-done e (behind-left (b .env) (b .shows)) in omega (arith, g .filled .fits, x .fits) }
+    pub behind-room : {m : ℕ} → r .made ≡ Made.Done m → Room (length rest) k m
+    behind-room e = let g = left-done e (behind-left (b .env) (b .shows)) in record { few = omega (arith, b .few, b .whole); fits = omega (arith, g .filled .fits, x .fits) }
 
   -- behind a part, and behind a source that is held
   module _ {us after : List ℕ} {r : Step} {o : ℕ → Env → ℕ → Out Forest} {k : ℕ} (w : Evaluates s held after (length rest) us at r o) (e : r .made ≡ Made.Done k) (long : length after ≡ length held) where
@@ -94,18 +92,18 @@ module _ {s : Spans} {held rest : List ℕ} {at : ℕ} (b : Begins s held rest a
     pub element-stops : {us : List ℕ} → length rest < 3 → Evaluates s held held (length rest) us at (record { made = Made.Full n; scope = s }) (valued (Queries.element n l q))
     element-stops h = record { kept = refl; below = refl; is = λ env i. left-as (element-not (at + length rest / 3) n env at l q (omega (arith, b .whole))) full }
 
-    pub element-leaves : {last vs us : List ℕ} {body r : Step} → (h : 3 ≤ length rest) → Evaluates s held last (length (drop 3 rest)) vs (at + 1) body (valued q) → length vs ≡ length (drop 3 rest)
-        → Wraps (take 3 rest ++ vs) us l body r → Evaluates s held last (length rest) us at r (valued (Queries.element n l q))
+    pub element-leaves : {last vs us : List ℕ} {k : ℕ} {t : Spans} → (h : 3 ≤ length rest) → Evaluates s held last (length (drop 3 rest)) vs (at + 1) (record { made = Made.Done k; scope = t }) (valued q) → length vs ≡ length (drop 3 rest)
+        → Wraps (take 3 rest ++ vs) us l k → Evaluates s held last (length rest) us at (record { made = Made.Done (1 + k); scope = t }) (valued (Queries.element n l q))
     element-leaves {vs = vs} h w long z =
         let x = behind-first b h in
         record {
-          kept = ap (λ (y : Step). y .scope) (z .step) ∙ behind-kept x w;
+          kept = behind-kept x w;
           below = behind-below x w;
           is = λ env i. left-as (element-is (at + length rest / 3) n env at l q (omega (arith, b .whole))) (left-wrap (over-length 3 rest vs h long) (over-drop 3 rest vs h) z (behind-left x w env i));
         }
 
-    pub element-room : {last vs : List ℕ} {body : Step} → (h : 3 ≤ length rest) → Evaluates s held last (length (drop 3 rest)) vs (at + 1) body (valued q) → length vs ≡ length (drop 3 rest) → Room (length (take 3 rest ++ vs)) 1 (body .made)
-    element-room {vs = vs} {body} h w long = subst (λ (m : ℕ). Room m 1 (body .made)) (sym (over-length 3 rest vs h long)) (behind-room (behind-first b h) w)
+    pub element-room : {last vs : List ℕ} {k : ℕ} {t : Spans} → (h : 3 ≤ length rest) → Evaluates s held last (length (drop 3 rest)) vs (at + 1) (record { made = Made.Done k; scope = t }) (valued q) → length vs ≡ length (drop 3 rest) → Room (length (take 3 rest ++ vs)) 1 k
+    element-room {vs = vs} {k} h w long = subst (λ (m : ℕ). Room m 1 k) (sym (over-length 3 rest vs h long)) (behind-room (behind-first b h) w refl)
 
   -- PAIR
   module _ (n : ℕ) (p q : Query) {us after : List ℕ} {first : Step} (w : Evaluates s held after (length rest) us at first (valued p)) where
@@ -123,15 +121,15 @@ module _ {s : Spans} {held rest : List ℕ} {at : ℕ} (b : Begins s held rest a
   module _ (p whole : Query) (rule : Forest → ℕ → Env → ℕ → Out Forest) {us after : List ℕ} {source : Step} (w : Evaluates s held after (length rest) us at source (valued p)) where
     module _ {k : ℕ} (e : source .made ≡ Made.Done k) (long : length after ≡ length held) (us-long : length us ≡ length rest) {final : List ℕ} (put : final ≡ stored after (3 * at) (take (3 * k) us)) (as-long : length final ≡ length after) where
       pub bound-leaves : ((top : ℕ) (env : Env) (f : Forest) → eval top p env at ≡ ok f → size f ≡ k → eval top whole env at ≡ rule f top env (at + k))
-          → {last vs xs : List ℕ} {body r : Step} → ((f : Forest) → part final at (at + k) ≡ forestWords f → Evaluates (source .scope) final last (length (drop (3 * k) us)) vs (at + k) body (rule f))
-          → length vs ≡ length (drop (3 * k) us) → Moves (take (3 * k) us ++ vs) xs k body r
-          → Evaluates s held last (length rest) xs at r (valued whole)
-      bound-leaves law {vs = vs} {body = body} {r} v n z =
+          → {last vs xs : List ℕ} {m : ℕ} {t : Spans} → ((f : Forest) → part final at (at + k) ≡ forestWords f → Evaluates (source .scope) final last (length (drop (3 * k) us)) vs (at + k) (record { made = Made.Done m; scope = t }) (rule f))
+          → length vs ≡ length (drop (3 * k) us) → Moves (take (3 * k) us ++ vs) xs k m
+          → Evaluates s held last (length rest) xs at (record { made = Made.Done m; scope = t }) (valued whole)
+      bound-leaves law {vs = vs} v n z =
           let x = behind-held w e long put as-long in
           let a = among-held w e long put as-long in
           let fits : 3 * k ≤ length us = omega (arith, x .fits, us-long) in
           record {
-            kept = ap (λ (y : Step). y .scope) (z .step) ∙ behind-kept x (v (a .forest) (a .is));
+            kept = behind-kept x (v (a .forest) (a .is));
             below = behind-below x (v (a .forest) (a .is));
             is = λ env h.
                 let i = left-done e (w .is env h) in
@@ -140,9 +138,9 @@ module _ {s : Spans} {held rest : List ℕ} {at : ℕ} (b : Begins s held rest a
           }
 
   -- WHEN
-  module _ (n : ℕ) (c : Cond) (q : Query) {t : Spans} {told : Bool} (same : t ≡ s) (h : Tells (s .from) (s .to) held told c) where
-    pub when-none : {us : List ℕ} → us ≡ rest → not told ≡ true → Evaluates s held held (length rest) us at (record { made = Made.Done 0; scope = t }) (valued (Queries.when n c q))
-    when-none u e = record { kept = same; below = refl; is = λ env i. left-as (when-not (at + length rest / 3) n env at c q (sym (h .is env i) ∙ not-true _ e)) (done (filled-none (u ∙ b .blank))) }
+  module _ (n : ℕ) (c : Cond) (q : Query) {told : Bool} (h : Tells (s .from) (s .to) held told c) where
+    pub when-none : {us : List ℕ} → us ≡ rest → told ≡ false → Evaluates s held held (length rest) us at (record { made = Made.Done 0; scope = s }) (valued (Queries.when n c q))
+    when-none u e = record { kept = refl; below = refl; is = λ env i. left-as (when-not (at + length rest / 3) n env at c q (sym (h .is env i) ∙ e)) (done (filled-none (u ∙ b .blank))) }
 
   -- INSIDE: the scope is as it was when its variable is unbound again
   pub inside-leaves : {v i : ℕ} {t u : Spans} {after us : List ℕ} {body : Step} (x was : Span) (q : Query) → v ≤ 63 → i ≡ v → t ≡ bound s i x → was ≡ record { from = start s i; to = stop s i } → u ≡ bound (body .scope) i was → Evaluates t held after (length rest) us at body (valued q)

@@ -14,7 +14,6 @@ use Rattle.spans.specs.declared.Spans.{Spans}
 use Rattle.copies.specs.Fills.{Filled}
 use Rattle.copies.specs.declared.Made.{Made}
 use Rattle.copies.specs.declared.Made.the-variants as Made
-use Rattle.picks.specs.declared.Step.{Step}
 
 -- WHAT IT IS GIVEN: a part of the work table from entry `at` on, of whole entries and all zeros; room to hold as much; and a scope whose stretches lie
 -- among the first `at` entries held and show an environment
@@ -39,6 +38,11 @@ pub record Among (held : List ℕ) (a e n : ℕ) : Type 0 where
   pub below : e ≤ n
   pub forest : Forest
   pub is : part held a e ≡ forestWords forest
+
+-- WHAT A NODE MADE, and the scope then
+pub record Step : Type 0 where
+  pub made : Made
+  pub scope : Spans
 
 -- WHAT IT LEAVES in a part of so many words, where o is the meaning of it: a forest, or refusal 21
 pub data Left (room : ℕ) (us : List ℕ) : Made → Out Forest → Type 0 where

@@ -11,16 +11,14 @@ use Rattle.meaning.specs.Queries.{Query, Cond, queryAt}
 use Rattle.meaning.specs.Running.{Env, holds}
 use Rattle.words.specs.Tables.{stored, codeOf}
 use Rattle.uses.specs.Counts.{Coded}
-use Rattle.spans.specs.Shows.{start, stop, bound, Shows}
-use Rattle.spans.specs.declared.Span.{Span}
+use Rattle.spans.specs.Shows.{standing, bound, Shows}
 use Rattle.spans.specs.declared.Spans.{Spans}
 use Rattle.copies.specs.declared.Made.the-variants as Made
-use Rattle.picks.specs.declared.Step.{Step}
 use Rattle.truths.specs.Tells.{Places}
 use Rattle.running.specs.declared.Frame.{Frame}
+use Rattle.running.specs.declared.Next.{Next}
 use Rattle.running.specs.declared.Next.the-variants as Next
-use Rattle.running.specs.declared.Turn.{Turn}
-use Rattle.running.specs.Evaluates.{Ready, Evaluates, Rounds, valued}
+use Rattle.running.specs.Evaluates.{Step, Ready, Evaluates, Rounds, valued}
 
 -- A FRAME is six words of the stack, two entries of three
 unfoldable pub frameIn : List ℕ → ℕ → Frame
@@ -59,10 +57,7 @@ pub record Answers (q : Query) (x : Spot) (r : Step) (after us : List ℕ) : Typ
 abbrev pub Gave : Query → Spot → ℕ → List ℕ → List ℕ → Type 0
 Gave q x k after us = Answers q x (record { made = Made.Done k; scope = x .scope }) after us
 
--- the stretch that stands for a variable, and a forest of k entries held from the spot's entry on
-abbrev pub standing : Spans → ℕ → Span
-standing s v = record { from = start s v; to = stop s v }
-
+-- a forest of k entries held from the spot's entry on
 abbrev pub holding : Spot → ℕ → List ℕ → List ℕ → List ℕ
 holding x k after us = stored after (3 * x .at) (take (3 * k) us)
 
@@ -176,7 +171,15 @@ still (Queries.for n v p q) f = half (f .kept) (2 + (weight q + 1) * 8192) (λ k
 still (Queries.let-in n v p q) f = half (f .kept) (2 + weight q) (λ k. 1)
 still (Queries.when n c q) f = 1
 
--- STEPS. Up with what a node that begins at an entry made
+-- STEPS: where the evaluation stands then, and the scope
+pub record Turn : Type 0 where
+  pub next : Next
+  pub scope : Spans
+
+abbrev pub turn : Next → Spans → Turn
+turn next s = record { next = next; scope = s }
+
+-- up with what a node that begins at an entry made
 abbrev pub risen : Step → ℕ → ℕ → Turn
 risen s at top = record { next = Next.Up (s .made) at top; scope = s .scope }
 

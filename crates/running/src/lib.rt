@@ -1,6 +1,7 @@
 // The evaluator: a query's forest, from a node of the query table, at the front of the part of the work table that is lent to it. One loop does it, with
-// what is begun on a lent stack: a frame is six words. A source that let or for binds is held in a second table, where its variable finds it. A scope
-// comes by value and is handed back: bound before a body and unbound after it. Parts have lower nodes, so there are never more frames than nodes.
+// what is begun on a lent stack: a frame is six words. A source that let or for binds is held in a second table, where its variable finds it. The scope
+// comes by value; its two arrays are lent to each step that looks a variable up, binds it before a body or unbinds it after that. Parts have lower nodes, so
+// there are never more frames than nodes.
 ghost use mathlib.Core.Path.{_≡_};
 ghost use mathlib.Core.List.{List};
 ghost use Prim.Native.Nat.{ℕ, suc, _+_, _*_, _≤_, _<_};
@@ -8,11 +9,11 @@ ghost use lib.ListN.{length};
 ghost use Rattle.meaning.specs.Queries as Queries;
 ghost use Rattle.meaning.specs.Queries.{queryAt, condAt};
 ghost use Rattle.words.specs.Tables.{codeOf};
+ghost use Rattle.spans.specs.Shows.{scope};
 ghost use Rattle.running.specs.declared.Next.the-variants as Stands;
 ghost use Rattle.running.specs.Evaluates.{Ready, Evaluated};
-ghost use Rattle.running.specs.Machine.{spot, frameIn, framed, risen, weight, still, Waits, Back, Looping, Guards, Steps};
+ghost use Rattle.running.specs.Machine.{spot, turn, frameIn, framed, weight, still, Waits, Back, Looping, Guards, Steps};
 use copies::Made;
-use picks::Step;
 use queries::Query;
 use spans::Span;
 use spans::Spans;
@@ -31,12 +32,6 @@ struct Frame {
 enum Next {
     Down { node: usize, at: usize, top: usize },
     Up { made: Made, at: usize, top: usize },
-}
-
-// A step of the evaluation: where it stands then, and the scope again.
-struct Turn {
-    next: Next,
-    scope: Spans,
 }
 
 // The frame over i others.
@@ -62,42 +57,23 @@ fn frame_at(stack: &[u16], i: usize) -> Frame
     }
 }
 
-// Up with what a node that begins at an entry made.
-fn rise(step: Step, at: usize, top: usize) -> Turn
-    ensures { λ r. ⌜ r ≡ risen step at top ⌝ }
-{
-    let made = step.made;
-    let scope = step.scope;
-    let next = Next::Up { made, at, top };
-    Turn { next, scope }
-}
-
 // Down into a part of the node that is the frame over i others.
-fn go_on(stack: &mut [u16], i: usize, f: Frame, part: u16, at: usize, scope: Spans) -> Turn
+fn go_on(stack: &mut [u16], i: usize, f: Frame, part: u16, at: usize) -> Next
     requires { ⌜ 6 * i + 6 ≤ length (now stack) ⌝ }
-    ensures { λ r. ⌜ r ≡ record { next = Stands.Down part at (suc i); scope = scope } ⌝ ∗ ⌜ now (stack .exit) ≡ framed (now (stack .entry)) i f ⌝ }
+    ensures { λ r. ⌜ r ≡ Stands.Down part at (suc i) ⌝ ∗ ⌜ now (stack .exit) ≡ framed (now (stack .entry)) i f ⌝ }
 {
     let row = 2 * i;
     words::put_entry(stack, row, f.node, f.base, f.kept);
     words::put_entry(stack, row + 1, f.next, f.hides.from, f.hides.to);
     let node = words::wide(part);
     let top = i + 1;
-    let next = Next::Down { node, at, top };
-    Turn { next, scope }
+    Next::Down { node, at, top }
 }
 
 // Down into the first part of node n, which becomes a frame.
-fn begin(
-    stack: &mut [u16],
-    top: usize,
-    n: usize,
-    base: usize,
-    part: u16,
-    at: usize,
-    scope: Spans,
-) -> Turn
+fn begin(stack: &mut [u16], top: usize, n: usize, base: usize, part: u16, at: usize) -> Next
     requires { ⌜ 6 * top + 6 ≤ length (now stack) ⌝ ∗ ⌜ n < 1024 ⌝ ∗ ⌜ base ≤ 8192 ⌝ }
-    ensures { λ r. ⌜ r ≡ record { next = Stands.Down part at (suc top); scope = scope } ⌝ ∗ ⌜ now (stack .exit) ≡ framed (now (stack .entry)) top (record { node = n; base = base; kept = 0; next = 0; hides = record { from = 0; to = 0 } }) ⌝ }
+    ensures { λ r. ⌜ r ≡ Stands.Down part at (suc top) ⌝ ∗ ⌜ now (stack .exit) ≡ framed (now (stack .entry)) top (record { node = n; base = base; kept = 0; next = 0; hides = record { from = 0; to = 0 } }) ⌝ }
 {
     let hides = Span { from: 0, to: 0 };
     let node = n as u16;
@@ -109,34 +85,28 @@ fn begin(
         next: 0,
         hides,
     };
-    go_on(stack, top, f, part, at, scope)
+    go_on(stack, top, f, part, at)
 }
 
 // An element: room for its entry, and then down into its body behind that.
-fn entered(
-    stack: &mut [u16],
-    top: usize,
-    room: usize,
-    n: usize,
-    q: u16,
-    at: usize,
-    scope: Spans,
-) -> Turn
+fn entered(stack: &mut [u16], top: usize, room: usize, n: usize, q: u16, at: usize) -> Next
     requires { ⌜ 6 * top + 6 ≤ length (now stack) ⌝ ∗ ⌜ n < 1024 ⌝ ∗ ⌜ at ≤ 8192 ⌝ }
-    ensures { λ r. ⌜ ((code held rest : List ℕ) (nodes l : ℕ) → room ≡ length rest → Ready code nodes scope held rest at n → queryAt (codeOf code nodes) n ≡ Queries.element n l (queryAt (codeOf code nodes) q) → q < n → Steps code nodes (weight (queryAt (codeOf code nodes) n)) (spot n at scope held rest) held rest (now (stack .entry)) (now (stack .exit)) top r) ⌝ }
+    ensures { λ r. ⌜ ((code held rest : List ℕ) (nodes l : ℕ) (s : Spans) → room ≡ length rest → Ready code nodes s held rest at n → queryAt (codeOf code nodes) n ≡ Queries.element n l (queryAt (codeOf code nodes) q) → q < n → Steps code nodes (weight (queryAt (codeOf code nodes) n)) (spot n at s held rest) held rest (now (stack .entry)) (now (stack .exit)) top (turn r s)) ⌝ }
 {
     if room < 3 {
         let made = Made::Full(n);
-        return rise(Step { made, scope }, at, top);
+        return Next::Up { made, at, top };
     }
     let inside = at + 1;
-    begin(stack, top, n, at, q, inside, scope)
+    begin(stack, top, n, at, q, inside)
 }
 
 // when: its condition, and then down into its part; or nothing.
 fn guarded(
     code: &[u16],
     nodes: usize,
+    froms: &[u16; 64],
+    tos: &[u16; 64],
     held: &[u16],
     stack: &mut [u16],
     top: usize,
@@ -144,57 +114,67 @@ fn guarded(
     p: u16,
     q: u16,
     at: usize,
-    scope: Spans,
-) -> Turn
-    requires { ⌜ Guards (now code) nodes scope (now held) at n p ⌝ ∗ ⌜ 6 * top + 6 ≤ length (now stack) ⌝ }
-    ensures { λ r. ⌜ ((rest : List ℕ) → Ready (now (code .entry)) nodes scope (now (held .entry)) rest at n → queryAt (codeOf (now (code .entry)) nodes) n ≡ Queries.when n (condAt (codeOf (now (code .entry)) nodes) p) (queryAt (codeOf (now (code .entry)) nodes) q) → q < n → Steps (now (code .entry)) nodes (weight (queryAt (codeOf (now (code .entry)) nodes) n)) (spot n at scope (now (held .entry)) rest) (now (held .entry)) rest (now (stack .entry)) (now (stack .exit)) top r) ⌝ }
+) -> Next
+    requires { ⌜ Guards (now code) nodes (scope (now froms) (now tos)) (now held) at n p ⌝ ∗ ⌜ 6 * top + 6 ≤ length (now stack) ⌝ }
+    ensures { λ r. ⌜ ((rest : List ℕ) → Ready (now (code .entry)) nodes (scope (now (froms .entry)) (now (tos .entry))) (now (held .entry)) rest at n → queryAt (codeOf (now (code .entry)) nodes) n ≡ Queries.when n (condAt (codeOf (now (code .entry)) nodes) p) (queryAt (codeOf (now (code .entry)) nodes) q) → q < n → Steps (now (code .entry)) nodes (weight (queryAt (codeOf (now (code .entry)) nodes) n)) (spot n at (scope (now (froms .entry)) (now (tos .entry))) (now (held .entry)) rest) (now (held .entry)) rest (now (stack .entry)) (now (stack .exit)) top (turn r (scope (now (froms .entry)) (now (tos .entry))))) ⌝ }
 {
-    let told = truths::judge(code, nodes, words::wide(p), scope, held);
-    let scope = told.scope;
-    if !told.holds {
-        let made = Made::Done(0);
-        return rise(Step { made, scope }, at, top);
+    if truths::truth(code, nodes, words::wide(p), froms, tos, held) {
+        return begin(stack, top, n, at, q, at);
     }
-    begin(stack, top, n, at, q, at, scope)
+    let made = Made::Done(0);
+    Next::Up { made, at, top }
 }
 
 // A step down at node n, which the rest from an entry on is lent to.
 fn down(
     code: &[u16],
     nodes: usize,
-    scope: Spans,
+    froms: &[u16; 64],
+    tos: &[u16; 64],
     held: &[u16],
     rest: &mut [u16],
     at: usize,
     n: usize,
     stack: &mut [u16],
     top: usize,
-) -> Turn
-    requires { ⌜ Ready (now code) nodes scope (now held) (now rest) at n ⌝ ∗ ⌜ 6 * top + 6 ≤ length (now stack) ⌝ }
-    ensures { λ r. ⌜ Steps (now (code .entry)) nodes (weight (queryAt (codeOf (now (code .entry)) nodes) n)) (spot n at scope (now (held .entry)) (now (rest .entry))) (now (held .entry)) (now (rest .exit)) (now (stack .entry)) (now (stack .exit)) top r ⌝ }
+) -> Next
+    requires { ⌜ Ready (now code) nodes (scope (now froms) (now tos)) (now held) (now rest) at n ⌝ ∗ ⌜ 6 * top + 6 ≤ length (now stack) ⌝ }
+    ensures { λ r. ⌜ Steps (now (code .entry)) nodes (weight (queryAt (codeOf (now (code .entry)) nodes) n)) (spot n at (scope (now (froms .entry)) (now (tos .entry))) (now (held .entry)) (now (rest .entry))) (now (held .entry)) (now (rest .exit)) (now (stack .entry)) (now (stack .exit)) top (turn r (scope (now (froms .entry)) (now (tos .entry)))) ⌝ }
 {
     let query = queries::read_query(code, n);
     match query {
         Query::Nothing => {
             let made = Made::Done(0);
-            rise(Step { made, scope }, at, top)
+            Next::Up { made, at, top }
         }
-        Query::Text(t) => rise(picks::text(scope, rest, n, t), at, top),
-        Query::Element(_, q) => entered(stack, top, rest.len(), n, q, at, scope),
-        Query::Pair(p, _) => begin(stack, top, n, at, p, at, scope),
-        Query::Variable(v) => rise(picks::variable(scope, held, rest, n, v), at, top),
-        Query::Child(v, test) => rise(picks::child(scope, held, rest, n, v, test), at, top),
-        Query::Dos(v, test) => rise(picks::dos(scope, held, rest, n, v, test), at, top),
-        Query::For(_, p, _) => begin(stack, top, n, at, p, at, scope),
-        Query::Let(_, p, _) => begin(stack, top, n, at, p, at, scope),
-        Query::When(p, q) => guarded(code, nodes, held, stack, top, n, p, q, at, scope),
+        Query::Text(t) => {
+            let made = picks::text(rest, n, t);
+            Next::Up { made, at, top }
+        }
+        Query::Element(_, q) => entered(stack, top, rest.len(), n, q, at),
+        Query::Pair(p, _) => begin(stack, top, n, at, p, at),
+        Query::Variable(v) => {
+            let made = picks::variable(froms, tos, held, rest, n, v);
+            Next::Up { made, at, top }
+        }
+        Query::Child(v, test) => {
+            let made = picks::child(froms, tos, held, rest, n, v, test);
+            Next::Up { made, at, top }
+        }
+        Query::Dos(v, test) => {
+            let made = picks::dos(froms, tos, held, rest, n, v, test);
+            Next::Up { made, at, top }
+        }
+        Query::For(_, p, _) => begin(stack, top, n, at, p, at),
+        Query::Let(_, p, _) => begin(stack, top, n, at, p, at),
+        Query::When(p, q) => { guarded(code, nodes, froms, tos, held, stack, top, n, p, q, at) }
     }
 }
 
 // A pair with k entries made from an entry on: by its first part, and then comes its second behind them; or by its second.
-fn paired(stack: &mut [u16], i: usize, f: Frame, q: u16, at: usize, k: usize, scope: Spans) -> Turn
+fn paired(stack: &mut [u16], i: usize, f: Frame, q: u16, at: usize, k: usize) -> Next
     requires { ⌜ 6 * i + 6 ≤ length (now stack) ⌝ ∗ ⌜ at + k ≤ 8192 ⌝ ∗ ⌜ f .kept + k ≤ 8193 ⌝ }
-    ensures { λ r. ⌜ ((held rest : List ℕ) (w : Waits (λ n p r. Queries.pair n p r) q f at k scope held rest) → Steps (w .code) (w .nodes) (still (queryAt (codeOf (w .code) (w .nodes)) (w .back .outer .node)) f) (w .back .outer) held rest (now (stack .entry)) (now (stack .exit)) i r) ⌝ }
+    ensures { λ r. ⌜ ((s : Spans) (held rest : List ℕ) (w : Waits (λ n p r. Queries.pair n p r) q f at k s held rest) → Steps (w .code) (w .nodes) (still (queryAt (codeOf (w .code) (w .nodes)) (w .back .outer .node)) f) (w .back .outer) held rest (now (stack .entry)) (now (stack .exit)) i (turn r s)) ⌝ }
 {
     if f.kept == 0 {
         let kept = k as u16 + 1;
@@ -206,16 +186,23 @@ fn paired(stack: &mut [u16], i: usize, f: Frame, q: u16, at: usize, k: usize, sc
             next: 0,
             hides,
         };
-        return go_on(stack, i, g, q, at + k, scope);
+        return go_on(stack, i, g, q, at + k);
     }
     let first = words::wide(f.kept) - 1;
-    let made = Made::Done(k);
-    let both = moves::add(first, Step { made, scope });
-    rise(both, words::wide(f.base), i)
+    let both = first + k;
+    let made = Made::Done(both);
+    let base = words::wide(f.base);
+    Next::Up {
+        made,
+        at: base,
+        top: i,
+    }
 }
 
 // let with k entries made from an entry on: by its source, which is held for its variable, and then comes its body; or by its body, which is moved down.
 fn named(
+    froms: &mut [u16; 64],
+    tos: &mut [u16; 64],
     held: &mut [u16],
     rest: &mut [u16],
     stack: &mut [u16],
@@ -225,26 +212,28 @@ fn named(
     q: u16,
     at: usize,
     k: usize,
-    scope: Spans,
-) -> Turn
-    requires { ⌜ 6 * i + 6 ≤ length (now stack) ⌝ ∗ ⌜ v ≤ 63 ⌝ ∗ ⌜ Waits (λ n p r. Queries.let-in n v p r) q f at k scope (now held) (now rest) ⌝ }
-    ensures { λ r. ⌜ ((w : Waits (λ n p r. Queries.let-in n v p r) q f at k scope (now (held .entry)) (now (rest .entry))) → Steps (w .code) (w .nodes) (still (queryAt (codeOf (w .code) (w .nodes)) (w .back .outer .node)) f) (w .back .outer) (now (held .exit)) (now (rest .exit)) (now (stack .entry)) (now (stack .exit)) i r) ⌝ }
+) -> Next
+    requires { ⌜ 6 * i + 6 ≤ length (now stack) ⌝ ∗ ⌜ v ≤ 63 ⌝ ∗ ⌜ Waits (λ n p r. Queries.let-in n v p r) q f at k (scope (now froms) (now tos)) (now held) (now rest) ⌝ }
+    ensures { λ r. ⌜ ((w : Waits (λ n p r. Queries.let-in n v p r) q f at k (scope (now (froms .entry)) (now (tos .entry))) (now (held .entry)) (now (rest .entry))) → Steps (w .code) (w .nodes) (still (queryAt (codeOf (w .code) (w .nodes)) (w .back .outer .node)) f) (w .back .outer) (now (held .exit)) (now (rest .exit)) (now (stack .entry)) (now (stack .exit)) i (turn r (scope (now (froms .exit)) (now (tos .exit))))) ⌝ }
 {
     let base = words::wide(f.base);
     let w = words::wide(v);
     if f.kept != 0 {
         let hides = f.hides;
-        let scope = scope.unbind(w, hides);
+        spans::unbind(froms, tos, w, hides);
+        moves::down(rest, words::wide(f.kept) - 1, k);
         let made = Made::Done(k);
-        let body = moves::down(rest, words::wide(f.kept) - 1, Step { made, scope });
-        return rise(body, base, i);
+        return Next::Up {
+            made,
+            at: base,
+            top: i,
+        };
     }
     moves::hold(rest, k, held, base);
     let end = base + k;
     let to = end as u16;
     let x = Span { from: f.base, to };
-    let bound = scope.bind(w, x);
-    let hides = bound.span;
+    let hides = spans::bind(froms, tos, w, x);
     let kept = k as u16 + 1;
     let g = Frame {
         node: f.node,
@@ -253,11 +242,13 @@ fn named(
         next: 0,
         hides,
     };
-    go_on(stack, i, g, q, at + k, bound.scope)
+    go_on(stack, i, g, q, at + k)
 }
 
 // for with its source held and bodies of m entries behind it: the next tree's body, or, when there is none, all moved down.
 fn round(
+    froms: &mut [u16; 64],
+    tos: &mut [u16; 64],
     held: &[u16],
     rest: &mut [u16],
     stack: &mut [u16],
@@ -266,10 +257,9 @@ fn round(
     v: u16,
     q: u16,
     m: usize,
-    scope: Spans,
-) -> Turn
-    requires { ⌜ 6 * i + 6 ≤ length (now stack) ⌝ ∗ ⌜ v ≤ 63 ⌝ ∗ ⌜ Looping v q f m scope (now held) (now rest) ⌝ }
-    ensures { λ r. ⌜ ((l : Looping v q f m scope (now (held .entry)) (now (rest .entry))) → Steps (l .code) (l .nodes) (still (queryAt (codeOf (l .code) (l .nodes)) (l .outer .node)) f) (l .outer) (now (held .entry)) (now (rest .exit)) (now (stack .entry)) (now (stack .exit)) i r) ⌝ }
+) -> Next
+    requires { ⌜ 6 * i + 6 ≤ length (now stack) ⌝ ∗ ⌜ v ≤ 63 ⌝ ∗ ⌜ Looping v q f m (scope (now froms) (now tos)) (now held) (now rest) ⌝ }
+    ensures { λ r. ⌜ ((l : Looping v q f m (scope (now (froms .entry)) (now (tos .entry))) (now (held .entry)) (now (rest .entry))) → Steps (l .code) (l .nodes) (still (queryAt (codeOf (l .code) (l .nodes)) (l .outer .node)) f) (l .outer) (now (held .entry)) (now (rest .exit)) (now (stack .entry)) (now (stack .exit)) i (turn r (scope (now (froms .exit)) (now (tos .exit))))) ⌝ }
 {
     let base = words::wide(f.base);
     let k = words::wide(f.kept) - 1;
@@ -283,8 +273,7 @@ fn round(
         let x = Span { from: tree, to };
         let after = j + size;
         let next = after as u16;
-        let bound = scope.bind(words::wide(v), x);
-        let hides = bound.span;
+        let hides = spans::bind(froms, tos, words::wide(v), x);
         let g = Frame {
             node: f.node,
             base: f.base,
@@ -292,14 +281,21 @@ fn round(
             next,
             hides,
         };
-        return go_on(stack, i, g, q, end + m, bound.scope);
+        return go_on(stack, i, g, q, end + m);
     }
+    moves::down(rest, k, m);
     let made = Made::Done(m);
-    rise(moves::down(rest, k, Step { made, scope }), base, i)
+    Next::Up {
+        made,
+        at: base,
+        top: i,
+    }
 }
 
 // for with k entries made from an entry on: by its source, which is held for its variable; or by the body of one tree. Then comes the next tree.
 fn each(
+    froms: &mut [u16; 64],
+    tos: &mut [u16; 64],
     held: &mut [u16],
     rest: &mut [u16],
     stack: &mut [u16],
@@ -309,18 +305,17 @@ fn each(
     q: u16,
     at: usize,
     k: usize,
-    scope: Spans,
-) -> Turn
-    requires { ⌜ 6 * i + 6 ≤ length (now stack) ⌝ ∗ ⌜ v ≤ 63 ⌝ ∗ ⌜ Waits (λ n p r. Queries.for n v p r) q f at k scope (now held) (now rest) ⌝ }
-    ensures { λ r. ⌜ ((w : Waits (λ n p r. Queries.for n v p r) q f at k scope (now (held .entry)) (now (rest .entry))) → Steps (w .code) (w .nodes) (still (queryAt (codeOf (w .code) (w .nodes)) (w .back .outer .node)) f) (w .back .outer) (now (held .exit)) (now (rest .exit)) (now (stack .entry)) (now (stack .exit)) i r) ⌝ }
+) -> Next
+    requires { ⌜ 6 * i + 6 ≤ length (now stack) ⌝ ∗ ⌜ v ≤ 63 ⌝ ∗ ⌜ Waits (λ n p r. Queries.for n v p r) q f at k (scope (now froms) (now tos)) (now held) (now rest) ⌝ }
+    ensures { λ r. ⌜ ((w : Waits (λ n p r. Queries.for n v p r) q f at k (scope (now (froms .entry)) (now (tos .entry))) (now (held .entry)) (now (rest .entry))) → Steps (w .code) (w .nodes) (still (queryAt (codeOf (w .code) (w .nodes)) (w .back .outer .node)) f) (w .back .outer) (now (held .exit)) (now (rest .exit)) (now (stack .entry)) (now (stack .exit)) i (turn r (scope (now (froms .exit)) (now (tos .exit))))) ⌝ }
 {
     let base = words::wide(f.base);
     if f.kept != 0 {
         let hides = f.hides;
-        let scope = scope.unbind(words::wide(v), hides);
+        spans::unbind(froms, tos, words::wide(v), hides);
         let source = base + words::wide(f.kept) - 1;
         let m = at - source + k;
-        return round(held, rest, stack, i, f, v, q, m, scope);
+        return round(froms, tos, held, rest, stack, i, f, v, q, m);
     }
     moves::hold(rest, k, held, base);
     let hides = f.hides;
@@ -332,14 +327,15 @@ fn each(
         next: f.base,
         hides,
     };
-    round(held, rest, stack, i, g, v, q, 0, scope)
+    round(froms, tos, held, rest, stack, i, g, v, q, 0)
 }
 
 // A step up to the frame f over i others, whose part made k entries from an entry on; the rest is lent from where the frame's node begins.
 fn up(
     code: &[u16],
     nodes: usize,
-    scope: Spans,
+    froms: &mut [u16; 64],
+    tos: &mut [u16; 64],
     held: &mut [u16],
     rest: &mut [u16],
     f: Frame,
@@ -347,26 +343,29 @@ fn up(
     k: usize,
     stack: &mut [u16],
     i: usize,
-) -> Turn
-    requires { ⌜ Back (now code) nodes f at k scope (now held) (now rest) ⌝ ∗ ⌜ 6 * i + 6 ≤ length (now stack) ⌝ }
-    ensures { λ r. ⌜ ((b : Back (now (code .entry)) nodes f at k scope (now (held .entry)) (now (rest .entry))) → Steps (now (code .entry)) nodes (still (queryAt (codeOf (now (code .entry)) nodes) (b .outer .node)) f) (b .outer) (now (held .exit)) (now (rest .exit)) (now (stack .entry)) (now (stack .exit)) i r) ⌝ }
+) -> Next
+    requires { ⌜ Back (now code) nodes f at k (scope (now froms) (now tos)) (now held) (now rest) ⌝ ∗ ⌜ 6 * i + 6 ≤ length (now stack) ⌝ }
+    ensures { λ r. ⌜ ((b : Back (now (code .entry)) nodes f at k (scope (now (froms .entry)) (now (tos .entry))) (now (held .entry)) (now (rest .entry))) → Steps (now (code .entry)) nodes (still (queryAt (codeOf (now (code .entry)) nodes) (b .outer .node)) f) (b .outer) (now (held .exit)) (now (rest .exit)) (now (stack .entry)) (now (stack .exit)) i (turn r (scope (now (froms .exit)) (now (tos .exit))))) ⌝ }
 {
     let query = queries::read_query(code, words::wide(f.node));
     match query {
         Query::Element(l, _) => {
-            let made = Made::Done(k);
-            rise(
-                moves::wrap(rest, l, Step { made, scope }),
-                words::wide(f.base),
-                i,
-            )
+            moves::wrap(rest, l, k);
+            let all = 1 + k;
+            let made = Made::Done(all);
+            let base = words::wide(f.base);
+            Next::Up {
+                made,
+                at: base,
+                top: i,
+            }
         }
-        Query::Pair(_, q) => paired(stack, i, f, q, at, k, scope),
-        Query::For(v, _, q) => each(held, rest, stack, i, f, v, q, at, k, scope),
-        Query::Let(v, _, q) => named(held, rest, stack, i, f, v, q, at, k, scope),
+        Query::Pair(_, q) => paired(stack, i, f, q, at, k),
+        Query::For(v, _, q) => each(froms, tos, held, rest, stack, i, f, v, q, at, k),
+        Query::Let(v, _, q) => named(froms, tos, held, rest, stack, i, f, v, q, at, k),
         _ => {
             let made = Made::Done(k);
-            rise(Step { made, scope }, at, i)
+            Next::Up { made, at, top: i }
         }
     }
 }
@@ -385,7 +384,8 @@ pub fn eval(
     requires { ⌜ Ready (now code) nodes scope (now held) (now rest) first n ⌝ ∗ ⌜ 6144 ≤ length (now stack) ⌝ }
     ensures { λ r. ⌜ Evaluated scope (now (held .entry)) (length (now (rest .entry))) (now (rest .exit)) first r (queryAt (codeOf (now (code .entry)) nodes) n) ⌝ }
 {
-    let mut here = scope;
+    let mut froms = scope.from;
+    let mut tos = scope.to;
     let mut next = Next::Down {
         node: n,
         at: first,
@@ -395,10 +395,11 @@ pub fn eval(
         match next {
             Next::Down { node, at, top } => {
                 let from = 3 * (at - first);
-                let turn = down(
+                next = down(
                     code,
                     nodes,
-                    here,
+                    &froms,
+                    &tos,
                     held,
                     &mut rest[from..],
                     at,
@@ -406,8 +407,6 @@ pub fn eval(
                     stack,
                     top,
                 );
-                here = turn.scope;
-                next = turn.next;
             }
             Next::Up { made, at, top } => {
                 let Made::Done(k) = made else {
@@ -419,10 +418,11 @@ pub fn eval(
                 let i = top - 1;
                 let f = frame_at(stack, i);
                 let from = 3 * (words::wide(f.base) - first);
-                let turn = up(
+                next = up(
                     code,
                     nodes,
-                    here,
+                    &mut froms,
+                    &mut tos,
                     held,
                     &mut rest[from..],
                     f,
@@ -431,8 +431,6 @@ pub fn eval(
                     stack,
                     i,
                 );
-                here = turn.scope;
-                next = turn.next;
             }
         }
     }

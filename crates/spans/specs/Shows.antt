@@ -17,6 +17,13 @@ start s v = getD (s .from) v 0
 abbrev pub stop : Spans → ℕ → ℕ
 stop s v = getD (s .to) v 0
 
+-- the scope of two lists, and the stretch that stands in a scope for a variable
+abbrev pub scope : List ℕ → List ℕ → Spans
+scope froms tos = record { from = froms; to = tos }
+
+abbrev pub standing : Spans → ℕ → Span
+standing s v = record { from = start s v; to = stop s v }
+
 -- the scope with another stretch for a variable
 abbrev pub bound : Spans → ℕ → Span → Spans
 bound s v x = record { from = set (s .from) v (x .from); to = set (s .to) v (x .to) }

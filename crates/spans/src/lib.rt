@@ -1,9 +1,9 @@
-// Where the forests of the variables in scope stand in the table of held forests, by value: a first entry and an end for each of the 64 variables
-// that there can be, the same for a variable that is not in scope. `bind`, `lookup` and `unbind` hand the scope back. `bind` tells which stretch it
-// hides and `unbind` puts that stretch back, so that the scope is as it was whatever stood there.
+// Where the forests of the variables in scope stand in the table of held forests: a first entry and an end for each of the 64 variables that there can
+// be, the same for a variable that is not in scope. A scope is a struct of two arrays; while it is worked with they are lent, so that 256 bytes need not be
+// copied for each variable. `bind` tells which stretch it hides and `unbind` puts that stretch back, so that the scope is as it was whatever stood there.
 ghost use mathlib.Core.Path.{_≡_};
 ghost use Prim.Native.Nat.{_<_};
-ghost use Rattle.spans.specs.Shows.{start, stop, bound, none};
+ghost use Rattle.spans.specs.Shows.{scope, standing, bound};
 
 // Entries of a table from one on up to another.
 pub struct Span {
@@ -16,54 +16,32 @@ pub struct Spans {
     pub to: [u16; 64],
 }
 
-// A scope, and what stands or stood in it for a variable.
-pub struct Looked {
-    pub scope: Spans,
-    pub span: Span,
+// The variable's stretch.
+pub fn lookup(froms: &[u16; 64], tos: &[u16; 64], v: usize) -> Span
+    requires { ⌜ v < 64 ⌝ }
+    ensures { λ r. ⌜ r ≡ standing (scope (now (froms .entry)) (now (tos .entry))) v ⌝ }
+{
+    let from = froms[v];
+    let to = tos[v];
+    Span { from, to }
 }
 
-impl Spans {
-    // No variable is in scope.
-    pub fn empty() -> Spans
-        ensures { λ r. ⌜ r ≡ none ⌝ }
-    {
-        Spans {
-            from: [0; 64],
-            to: [0; 64],
-        }
-    }
+// Another stretch for a variable; the answer is the one that stood there.
+pub fn bind(froms: &mut [u16; 64], tos: &mut [u16; 64], v: usize, x: Span) -> Span
+    requires { ⌜ v < 64 ⌝ }
+    ensures { λ r. ⌜ r ≡ standing (scope (now (froms .entry)) (now (tos .entry))) v ⌝ ∗ ⌜ scope (now (froms .exit)) (now (tos .exit)) ≡ bound (scope (now (froms .entry)) (now (tos .entry))) v x ⌝ }
+{
+    let was = lookup(froms, tos, v);
+    froms[v] = x.from;
+    tos[v] = x.to;
+    was
+}
 
-    // What the variable's stretch is.
-    pub fn lookup(self, v: usize) -> Looked
-        requires { ⌜ v < 64 ⌝ }
-        ensures { λ r. ⌜ (r .scope ≡ self) × (r .span ≡ record { from = start self v; to = stop self v }) ⌝ }
-    {
-        let from = self.from[v];
-        let to = self.to[v];
-        let span = Span { from, to };
-        Looked { scope: self, span }
-    }
-
-    // The scope with another stretch for a variable, and the stretch that stood there.
-    pub fn bind(mut self, v: usize, x: Span) -> Looked
-        requires { ⌜ v < 64 ⌝ }
-        ensures { λ r. ⌜ (r .scope ≡ bound self v x) × (r .span ≡ record { from = start self v; to = stop self v }) ⌝ }
-    {
-        let from = self.from[v];
-        let to = self.to[v];
-        let span = Span { from, to };
-        self.from[v] = x.from;
-        self.to[v] = x.to;
-        Looked { scope: self, span }
-    }
-
-    // The scope with the stretch that stood there before.
-    pub fn unbind(mut self, v: usize, was: Span) -> Spans
-        requires { ⌜ v < 64 ⌝ }
-        ensures { λ r. ⌜ r ≡ bound self v was ⌝ }
-    {
-        self.from[v] = was.from;
-        self.to[v] = was.to;
-        self
-    }
+// The stretch that stood there before.
+pub fn unbind(froms: &mut [u16; 64], tos: &mut [u16; 64], v: usize, was: Span)
+    requires { ⌜ v < 64 ⌝ }
+    ensures { λ _. ⌜ scope (now (froms .exit)) (now (tos .exit)) ≡ bound (scope (now (froms .entry)) (now (tos .entry))) v was ⌝ }
+{
+    froms[v] = was.from;
+    tos[v] = was.to;
 }

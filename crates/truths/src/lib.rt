@@ -1,5 +1,5 @@
-// Conditions, evaluated: whether two forests are the same entry for entry, whether one is empty, and the conditions that join others. A scope comes by
-// value and is handed back.
+// Conditions, evaluated: whether two forests are the same entry for entry, whether one is empty, and the conditions that join others. A scope is lent as
+// where its stretches begin and where they end.
 ghost use mathlib.Core.Path.{_≡_};
 ghost use Prim.Native.Nat.{_*_, _≤_, _<_};
 ghost use Rattle.meaning.specs.Forests.{sameWords};
@@ -9,13 +9,6 @@ ghost use Rattle.words.specs.Tables.{codeOf};
 ghost use Rattle.uses.specs.Counts.{Coded};
 ghost use Rattle.truths.specs.Tells.{Places, Tells};
 use conds::Cond;
-use spans::Spans;
-
-// Whether a condition holds, and the scope again.
-pub struct Told {
-    pub holds: bool,
-    pub scope: Spans,
-}
 
 // Whether two stretches have the same words.
 fn same(a: &[u16], b: &[u16]) -> bool
@@ -58,7 +51,7 @@ fn empty(from: &[u16; 64], to: &[u16; 64], held: &[u16], v: u16) -> bool
 }
 
 // Whether the condition at node n holds.
-fn truth(
+pub fn truth(
     code: &[u16],
     nodes: usize,
     n: usize,
@@ -88,15 +81,4 @@ fn truth(
             !truth(code, nodes, part, from, to, held)
         }
     }
-}
-
-// Whether the condition at node n holds in a scope.
-pub fn judge(code: &[u16], nodes: usize, n: usize, scope: Spans, held: &[u16]) -> Told
-    requires { ⌜ Coded (now code) nodes ⌝ ∗ ⌜ n < nodes ⌝ ∗ ⌜ Places (scope .from) (scope .to) (now held) ⌝ }
-    ensures { λ r. ⌜ (r .scope ≡ scope) × Tells (scope .from) (scope .to) (now (held .entry)) (r .holds) (condAt (codeOf (now (code .entry)) nodes) n) ⌝ }
-{
-    let from = scope.from;
-    let to = scope.to;
-    let holds = truth(code, nodes, n, &from, &to, held);
-    Told { holds, scope }
 }

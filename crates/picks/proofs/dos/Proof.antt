@@ -24,7 +24,7 @@ wide-requires-3 c κs = search needs
 
 chosen-requires : tie.Need-chosen-requires
 chosen-requires c κs =
-    (stretch ((c .before .before .before .before .before .before .before) .pre .0) ((c .before .before .before .before) .wide .ensures) (((c .before .before .before) .lookup .ensures) .1) (omega (arith, (c .before .before) .wide2 .ensures)) ((c .before) .wide3 .ensures), (end, filled-none ((c .before .before .before .before .before .before .before) .pre .1)))
+    (stretch ((c .before .before .before .before .before .before .before) .pre .0) ((c .before .before .before .before) .wide .ensures) ((c .before .before .before) .lookup .ensures) (omega (arith, (c .before .before) .wide2 .ensures)) ((c .before) .wide3 .ensures), (end, filled-none ((c .before .before .before .before .before .before .before) .pre .1)))
 
 same-length : tie.Need-same-length
 same-length c = search needs
@@ -32,7 +32,7 @@ same-length c = search needs
 returns : tie.Need-returns
 unfolding join spread
 returns c =
-    record { kept = ((c .before .before .before .before .before .before .before) .lookup .ensures) .0; is = λ env h. ((c .before .before .before) .chosen .ensures) (valueOf env ((c .before .before .before .before .before .before .before .before .before .before .before) .args .v)) end (shown ((c .before .before .before .before .before .before .before .before .before .before .before) .pre .0) ((c .before .before .before .before .before .before .before .before) .wide .ensures) (((c .before .before .before .before .before .before .before) .lookup .ensures) .1) (omega (arith, (c .before .before .before .before .before .before) .wide2 .ensures)) ((c .before .before .before .before .before) .wide3 .ensures) h) (filled-none ((c .before .before .before .before .before .before .before .before .before .before .before) .pre .1)) }
+    record { is = λ env h. ((c .before .before) .chosen .ensures) (valueOf env ((c .before .before .before .before .before .before .before .before .before .before) .args .v)) end (shown ((c .before .before .before .before .before .before .before .before .before .before) .pre .0) ((c .before .before .before .before .before .before .before) .wide .ensures) ((c .before .before .before .before .before .before) .lookup .ensures) (omega (arith, (c .before .before .before .before .before) .wide2 .ensures)) ((c .before .before .before .before) .wide3 .ensures) h) (filled-none ((c .before .before .before .before .before .before .before .before .before .before) .pre .1)) }
 
 pub dos-spec : {M : Type 1} → statement M
 dos-spec = tie.close (tie.spec wide-requires lookup-requires wide-requires-2 wide-requires-3 chosen-requires same-length returns)

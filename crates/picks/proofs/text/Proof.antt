@@ -3,6 +3,7 @@
 use Rattle.meaning.specs.Forests.{end, leaf, forestWords}
 use mathlib.Core.Path.{refl}
 use borrow.Author.Needs.{needs}
+use native.Mathlib.Omega.{arith}
 use Rattle.picks.proofs.text.Statement.{statement}
 use Rattle.picks.proofs.text.Tie as tie
 
@@ -17,7 +18,8 @@ same-length c = search needs
 
 returns : tie.Need-returns
 unfolding forestWords
-returns c = λ held. record { kept = refl; is = λ env h. (c .before .before .place .ensures) (leaf (c .before .before .before .before .before .before .args .t) end) refl }
+returns c =
+    (c .before .before) .place .ensures (leaf ((c .before .before .before .before .before .before) .args .t) end) refl
 
 pub text-spec : {M : Type 1} → statement M
 text-spec = tie.close (tie.spec slice-aggregate-place place-requires same-length returns)

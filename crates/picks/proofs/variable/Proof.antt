@@ -3,8 +3,8 @@
 use Rattle.spans.specs.Shows.{part}
 use Rattle.picks.proofs.Looking.{stretch, shown}
 use Rattle.meaning.specs.Running.{valueOf}
-use native.Mathlib.Omega.{arith}
 use borrow.Author.Needs.{needs}
+use native.Mathlib.Omega.{arith}
 use Rattle.picks.proofs.variable.Statement.{statement}
 use Rattle.picks.proofs.variable.Tie as tie
 
@@ -30,13 +30,16 @@ mul-place : tie.Need-mul-place
 mul-place c = search needs
 
 sub-place : tie.Need-sub-place
-sub-place c = omega (arith, stretch (c .before .before .before .before .before .before .pre .0) (c .before .before .before .wide .ensures) ((c .before .before .lookup .ensures) .1) (c .before .wide2 .ensures) (c .wide3 .ensures) .ordered)
+sub-place c =
+    omega (arith, stretch ((c .before .before .before .before .before .before) .pre .0) ((c .before .before .before) .wide .ensures) ((c .before .before) .lookup .ensures) ((c .before) .wide2 .ensures) (c .wide3 .ensures) .ordered)
 
 part-place-start : tie.Need-part-place-start
-part-place-start c = omega (arith, stretch (c .before .before .before .before .before .before .pre .0) (c .before .before .before .wide .ensures) ((c .before .before .lookup .ensures) .1) (c .before .wide2 .ensures) (c .wide3 .ensures) .ordered)
+part-place-start c =
+    omega (arith, stretch ((c .before .before .before .before .before .before) .pre .0) ((c .before .before .before) .wide .ensures) ((c .before .before) .lookup .ensures) ((c .before) .wide2 .ensures) (c .wide3 .ensures) .ordered)
 
 part-place-end : tie.Need-part-place-end
-part-place-end c = omega (arith, stretch (c .before .before .before .before .before .before .pre .0) (c .before .before .before .wide .ensures) ((c .before .before .lookup .ensures) .1) (c .before .wide2 .ensures) (c .wide3 .ensures) .inside)
+part-place-end c =
+    omega (arith, stretch ((c .before .before .before .before .before .before) .pre .0) ((c .before .before .before) .wide .ensures) ((c .before .before) .lookup .ensures) ((c .before) .wide2 .ensures) (c .wide3 .ensures) .inside)
 
 place-requires : tie.Need-place-requires
 place-requires c κs = search needs
@@ -46,22 +49,8 @@ same-length c = search needs
 
 returns : tie.Need-returns
 unfolding part
-returns c = record { kept = (c .before .before .before .before .before .before .before .before .lookup .ensures) .0; is = λ env h. (c .before .before .before .place .ensures) (valueOf env (c .before .before .before .before .before .before .before .before .before .before .before .before .args .v)) (shown (c .before .before .before .before .before .before .before .before .before .before .before .before .pre .0) (c .before .before .before .before .before .before .before .before .before .wide .ensures) ((c .before .before .before .before .before .before .before .before .lookup .ensures) .1) (c .before .before .before .before .before .before .before .wide2 .ensures) (c .before .before .before .before .before .before .wide3 .ensures) h) }
+returns c =
+    record { is = λ env h. ((c .before .before) .place .ensures) (valueOf env ((c .before .before .before .before .before .before .before .before .before .before .before) .args .v)) (shown ((c .before .before .before .before .before .before .before .before .before .before .before) .pre .0) ((c .before .before .before .before .before .before .before .before) .wide .ensures) ((c .before .before .before .before .before .before .before) .lookup .ensures) ((c .before .before .before .before .before .before) .wide2 .ensures) ((c .before .before .before .before .before) .wide3 .ensures) h) }
 
 pub variable-spec : {M : Type 1} → statement M
-variable-spec =
-    tie.close
-    (tie.spec
-    wide-requires
-    lookup-requires
-    wide-requires-2
-    mul-a
-    wide-requires-3
-    mul-e
-    mul-place
-    sub-place
-    part-place-start
-    part-place-end
-    place-requires
-    same-length
-    returns)
+variable-spec = tie.close (tie.spec wide-requires lookup-requires wide-requires-2 mul-a wide-requires-3 mul-e mul-place sub-place part-place-start part-place-end place-requires same-length returns)

@@ -29,7 +29,7 @@ same-length c = search needs
 
 returns : tie.Need-returns
 returns c =
-    (went _ _ (c .wide .ensures) (omega arith), framed-is _ _ _ ((c .before .before .before .before .before .before .before) .put-entry .ensures) ((c .before .before .before) .put-entry2 .ensures))
+    (went _ (c .wide .ensures) (omega arith), framed-is _ _ _ ((c .before .before .before .before .before .before .before) .put-entry .ensures) ((c .before .before .before) .put-entry2 .ensures))
 
 pub go-on-spec : {M : Type 1} → statement M
 go-on-spec = tie.close (tie.spec mul-row put-entry-requires add-put-entry put-entry-requires-2 wide-requires add-top same-length returns)

@@ -1,7 +1,8 @@
 -- `running::paired` meets its contract: its second part comes, or both are there.
 -- Assumes nothing.
 use mathlib.Core.Path.{refl}
-use Rattle.running.proofs.Parts.{both-fit, one-less}
+use Rattle.running.proofs.Frames.{turned}
+use Rattle.running.proofs.Parts.{one-less}
 use Rattle.running.proofs.Returning.{pair-on, pair-up, done-up}
 use borrow.Author.Needs.{needs}
 use native.Mathlib.Omega.{arith}
@@ -25,7 +26,7 @@ same-length c = search needs
 
 returns : tie.Need-returns
 returns c =
-    λ held rest w. pair-on (w .back .returns) (w .is) ((c .before .before .before .before .before) .if1 .taken) _ refl (w .low) _ refl refl (omega arith) ((c .before .before) .go-on .ensures .1) ((c .before .before) .go-on .ensures .0)
+    λ s held rest w. pair-on (w .back .returns) (w .is) ((c .before .before .before .before .before) .if1 .taken) _ refl (w .low) _ refl refl (omega arith) ((c .before .before) .go-on .ensures .1) (turned s ((c .before .before) .go-on .ensures .0))
 
 wide-requires : tie.Need-wide-requires
 wide-requires c κs = search needs
@@ -33,19 +34,15 @@ wide-requires c κs = search needs
 sub-first : tie.Need-sub-first
 sub-first c = search needs
 
-add-requires : tie.Need-add-requires
-add-requires c κs =
-    both-fit (c .wide .ensures) ((c .before .before .before .before) .pre .1 .1) (omega (arith, (c .before) .if1 .left))
+add-both : tie.Need-add-both
+add-both c = search needs
 
 wide-requires-2 : tie.Need-wide-requires-2
 wide-requires-2 c κs = search needs
 
-rise-requires : tie.Need-rise-requires
-rise-requires c κs = search needs
-
 returns-2 : tie.Need-returns-2
 returns-2 c =
-    λ held rest w. done-up (w .back .returns) (pair-up (w .back .returns) (w .is) (one-less ((c .before .before .before .before) .if1 .left)) ((c .before .before .before) .wide .ensures) ((c .before .before) .add .ensures)) ((c .before) .wide2 .ensures) refl (c .rise .ensures)
+    λ s held rest w. done-up (w .back .returns) (pair-up (w .back .returns) (w .is) (one-less ((c .before .before) .if1 .left)) ((c .before) .wide .ensures) refl) (c .wide2 .ensures) refl refl
 
 pub paired-spec : {M : Type 1} → statement M
-paired-spec = tie.close (tie.spec cast-kept add-kept add-go-on go-on-requires same-length returns wide-requires sub-first add-requires wide-requires-2 rise-requires returns-2)
+paired-spec = tie.close (tie.spec cast-kept add-kept add-go-on go-on-requires same-length returns wide-requires sub-first add-both wide-requires-2 returns-2)

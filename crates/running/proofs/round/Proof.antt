@@ -1,6 +1,7 @@
 -- `running::round` meets its contract: the next tree's body comes, or all bodies are moved down.
 -- Assumes nothing.
 use mathlib.Core.Path.{refl}
+use Rattle.running.proofs.Frames.{turned}
 use Rattle.running.proofs.Rounding.{loop-low, loop-inside, loop-space, source-is, more-is, none-is, there-is, tree-ends, round-on, round-up}
 use borrow.Author.Needs.{needs}
 use native.Mathlib.Omega.{arith}
@@ -86,12 +87,12 @@ wide-requires-6 c κs = search needs
 
 bind-requires : tie.Need-bind-requires
 bind-requires c κs =
-    omega (arith, c .wide6 .ensures, (c .before .before .before .before .before .before .before .before .before .before .before) .pre .1 .0)
+    omega (arith, c .wide6 .ensures, (c .before .before .before .before .before .before .before .before .before .before .before .before .before) .pre .1 .0)
 
 add-go-on : tie.Need-add-go-on
 add-go-on c =
-    let l = (c .before .before .before .before .before .before .before .before .before .before .before .before .before .before) .pre .1 .1 in
-    omega (arith, loop-low l, source-is l ((c .before .before .before .before .before .before .before .before .before) .wide2 .ensures), (c .before .before .before .before .before .before .before .before .before .before) .wide .ensures)
+    let l = (c .before .before .before .before .before .before .before .before .before .before .before .before .before .before .before) .pre .1 .1 in
+    omega (arith, loop-low l, source-is l ((c .before .before .before .before .before .before .before .before .before .before) .wide2 .ensures), (c .before .before .before .before .before .before .before .before .before .before .before) .wide .ensures)
 
 go-on-requires : tie.Need-go-on-requires
 go-on-requires c κs = search needs
@@ -102,22 +103,19 @@ same-length c = search needs
 returns : tie.Need-returns
 returns c =
     λ l.
-    let more = more-is l ((c .before .before .before .before .before .before .before .before .before .before .before .before .before) .wide .ensures) ((c .before .before .before .before .before .before .before .before .before .before .before .before) .wide2 .ensures) ((c .before .before .before .before .before .before .before .before .before .before .before) .wide3 .ensures) ((c .before .before .before .before .before .before .before .before .before .before) .if1 .taken) in
-    round-on l more (there-is l more ((c .before .before .before .before .before .before .before .before .before .before .before) .wide3 .ensures) ((c .before .before .before .before .before .before .before .before) .wide4 .ensures)) ((c .before .before .before .before .before .before .before .before .before .before .before .before .before .before .before .before .before) .pre .1 .0) _ refl refl refl refl ((c .before .before .before .before .before .before) .wide6 .ensures) ((c .before .before .before .before .before .before .before .before .before .before .before .before .before) .wide .ensures) ((c .before .before .before .before .before .before .before .before .before .before .before .before) .wide2 .ensures) ((c .before .before .before .before .before) .bind .ensures .1) ((c .before .before .before .before .before) .bind .ensures .0) refl (omega (arith, (c .before .before .before .before .before .before .before .before .before .before .before) .wide3 .ensures, (c .before .before .before .before .before .before .before) .wide5 .ensures)) ((c .before .before) .go-on .ensures .1) ((c .before .before) .go-on .ensures .0)
+    let more = more-is l ((c .before .before .before .before .before .before .before .before .before .before .before .before .before .before) .wide .ensures) ((c .before .before .before .before .before .before .before .before .before .before .before .before .before) .wide2 .ensures) ((c .before .before .before .before .before .before .before .before .before .before .before .before) .wide3 .ensures) ((c .before .before .before .before .before .before .before .before .before .before .before) .if1 .taken) in
+    round-on l more (there-is l more ((c .before .before .before .before .before .before .before .before .before .before .before .before) .wide3 .ensures) ((c .before .before .before .before .before .before .before .before .before) .wide4 .ensures)) ((c .before .before .before .before .before .before .before .before .before .before .before .before .before .before .before .before .before .before) .pre .1 .0) _ refl refl refl refl ((c .before .before .before .before .before) .wide6 .ensures) ((c .before .before .before .before .before .before .before .before .before .before .before .before .before .before) .wide .ensures) ((c .before .before .before .before .before .before .before .before .before .before .before .before .before) .wide2 .ensures) ((c .before .before .before .before) .bind .ensures .0) ((c .before .before .before .before) .bind .ensures .1) refl (omega (arith, (c .before .before .before .before .before .before .before .before .before .before .before .before) .wide3 .ensures, (c .before .before .before .before .before .before .before .before) .wide5 .ensures)) ((c .before .before) .go-on .ensures .1) (turned _ ((c .before .before) .go-on .ensures .0))
 
 down-requires : tie.Need-down-requires
 down-requires c κs =
     loop-space ((c .before .before .before .before .before .before .before .before) .pre .1 .1) ((c .before .before .before) .wide2 .ensures)
-
-rise-requires : tie.Need-rise-requires
-rise-requires c κs = search needs
 
 same-length-2 : tie.Need-same-length-2
 same-length-2 c = search needs
 
 returns-2 : tie.Need-returns-2
 returns-2 c =
-    λ l. round-up l (none-is l ((c .before .before .before .before .before .before .before .before) .wide .ensures) ((c .before .before .before .before .before .before .before) .wide2 .ensures) ((c .before .before .before .before .before .before) .wide3 .ensures) ((c .before .before .before .before .before) .if1 .left)) ((c .before .before .before .before .before .before .before) .wide2 .ensures) ((c .before .before .before) .down .ensures) ((c .before .before .before) .down .kept .0) ((c .before .before .before .before .before .before .before .before) .wide .ensures) refl (c .rise .ensures)
+    λ l. round-up l (none-is l ((c .before .before .before .before .before .before .before) .wide .ensures) ((c .before .before .before .before .before .before) .wide2 .ensures) ((c .before .before .before .before .before) .wide3 .ensures) ((c .before .before .before .before) .if1 .left)) ((c .before .before .before .before .before .before) .wide2 .ensures) ((c .before .before) .down .ensures) ((c .before .before) .down .kept .0) ((c .before .before .before .before .before .before .before) .wide .ensures) refl refl
 
 pub round-spec : {M : Type 1} → statement M
-round-spec = tie.close (tie.spec wide-requires wide-requires-2 sub-k wide-requires-3 add-end mul-wide add-wide mul-wide-2 shared-slice-read-wide wide-requires-4 add-size wide-requires-5 add-end-of-tree cast-to add-after cast-next wide-requires-6 bind-requires add-go-on go-on-requires same-length returns down-requires rise-requires same-length-2 returns-2)
+round-spec = tie.close (tie.spec wide-requires wide-requires-2 sub-k wide-requires-3 add-end mul-wide add-wide mul-wide-2 shared-slice-read-wide wide-requires-4 add-size wide-requires-5 add-end-of-tree cast-to add-after cast-next wide-requires-6 bind-requires add-go-on go-on-requires same-length returns down-requires same-length-2 returns-2)
