@@ -12,10 +12,9 @@ use Rattle.meaning.specs.Typing.{typeJob, typedTypes, typedCode}
 use Rattle.meaning.specs.Answers as Answers
 use Rattle.meaning.specs.Answers.{answerFile, fitted, answerJob}
 use Rattle.words.specs.Tables.{tableOf}
-use Rattle.words.proofs.Rows.{rows-length}
+use Rattle.words.proofs.Rows.{padded-most, rows-length}
 use Rattle.words.proofs.Tables.{entry-wide}
 use Rattle.reading.specs.declared.Given.{Given}
-use Rattle.jobs.proofs.Checking.{padded-most}
 use Rattle.answers.specs.declared.Written.{Written}
 use Rattle.answers.specs.declared.Written.the-variants as Written
 use Rattle.answers.specs.Says as Writes

@@ -83,7 +83,7 @@ fn settle(
             Back { answer, given }
         }
         Verdict::Refused { number, place } => {
-            words::clear(types);
+            words::clear_entries(types, count);
             refusal(number, place)
         }
     }

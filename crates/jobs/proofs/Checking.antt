@@ -4,7 +4,7 @@ use mathlib.Core.Path.{_≡_, refl, ap, _∙_, subst}
 use mathlib.Core.List.{List}
 use Prim.Native.Nat.{ℕ, _-_, _≤_}
 use native.Mathlib.Omega.{arith}
-use lib.ListN.{length, take, length-append}
+use lib.ListN.{length, take}
 use lib.Seq.{take-at}
 use Rattle.meaning.specs.Base.{Out, ok, refused, concatMap, zeros, padded, capsOf, typeWidth, codeWidth}
 use Rattle.meaning.specs.Types.{entryWords, tableWords}
@@ -15,7 +15,7 @@ use Rattle.meaning.specs.Typing.{readTypes, readCode}
 use Rattle.meaning.specs.Checks.{checkJob, readJob}
 use Rattle.meaning.proofs.Ends.{Ends, ends-ok}
 use Rattle.meaning.proofs.Reading.{Read, Through, capsOf-small, reads}
-use Rattle.words.proofs.Rows.{rows-length}
+use Rattle.words.proofs.Rows.{padded-most, rows-length}
 use Rattle.words.proofs.Tables.{entry-wide, node-wide, table-lent, code-lent}
 use Rattle.reading.specs.declared.Given.{Given}
 use Rattle.reading.specs.declared.Read as Answered
@@ -28,10 +28,6 @@ use Rattle.checks.specs.Says.{Ready, Stored}
 use Rattle.jobs.specs.declared.Answer.the-variants.{Accepted}
 use Rattle.jobs.specs.declared.Job.{Job}
 use Rattle.jobs.specs.Says.{jobOf, Left, Settled}
-
--- a padded list is no shorter than what it holds
-pub padded-most : (n : ℕ) (ws : List ℕ) → length ws ≤ length (padded n ws)
-padded-most n ws = omega (arith, length-append ws (zeros (n - length ws)))
 
 defs-lent : (D : List ℕ) → take (length D) (padded 64 D) ≡ D
 defs-lent D = take-at D (zeros (64 - length D)) (length D) refl

@@ -79,8 +79,8 @@ fn settle(
             Job { answer, given }
         }
         Verdict::Refused { number, place } => {
-            words::clear(types);
-            words::clear(query);
+            words::clear_entries(types, count);
+            words::clear_nodes(query, nodes);
             refusal(number, place)
         }
     }

@@ -13,10 +13,9 @@ use Rattle.meaning.specs.Queries.{queryAt}
 use Rattle.meaning.specs.Values.{Value, joined}
 use Rattle.meaning.specs.Running.{eval, envOf}
 use Rattle.words.specs.Tables.{stored, codeOf, varsOf}
-use Rattle.words.proofs.Rows.{zeros-length}
+use Rattle.words.proofs.Rows.{zeros-length, padded-most}
 use Rattle.words.proofs.Tables.{vars-length}
 use Rattle.reading.specs.declared.Given.{Given}
-use Rattle.jobs.proofs.Checking.{padded-most}
 use Rattle.spans.specs.declared.Spans.{Spans}
 use Rattle.spans.proofs.Binding.{shows-below}
 use Rattle.copies.specs.declared.Made.{Made}

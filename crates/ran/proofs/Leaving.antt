@@ -15,12 +15,11 @@ use Rattle.meaning.specs.Values.{Value, loadValues, joined}
 use Rattle.meaning.specs.Running.{eval, envOf, runJob}
 use Rattle.meaning.proofs.Reading.{capsOf-small, vars-wider}
 use Rattle.words.specs.Tables.{codeOf, varsOf}
-use Rattle.words.proofs.Rows.{rows-length}
+use Rattle.words.proofs.Rows.{padded-most, rows-length}
 use Rattle.words.proofs.Tables.{vars-length, node-wide}
 use Rattle.reading.specs.declared.Given.{Given}
 use Rattle.reading.specs.Says.{varWords}
 use Rattle.reading.proofs.Decoding.{var-wide}
-use Rattle.jobs.proofs.Checking.{padded-most}
 use Rattle.typed.specs.declared.Answer.the-variants as Told
 use Rattle.typed.specs.declared.Typed.{Typed}
 use Rattle.typed.specs.Says as Types

@@ -22,7 +22,7 @@ use Rattle.reading.specs.declared.Step.{Step}
 use Rattle.reading.specs.declared.Step.the-variants as Step
 use Rattle.reading.specs.Says.{caps}
 use Rattle.reading.specs.Steps.{isReadable, Counted, Shown, Placed, with, stepped, Next, Advances}
-use Rattle.reading.specs.Lists.{Lists, Holds, Space, Stores, Begun, Finished}
+use Rattle.reading.specs.Lists.{Lists, Holds, Space, Stores, Begun, Finished, Stopped}
 use Rattle.reading.proofs.Decoding.{vars-lent}
 use Rattle.reading.proofs.Storing.{worded, counted-with, counted-at}
 use Rattle.reading.proofs.Storing as Storing
@@ -142,8 +142,15 @@ module _ {file : File} {s : List ℕ} {room limit : ℕ} {k l : Lists} {here : C
         ∙ ap (λ (f : ℕ). readFrom f (fileOf file) (caps room limit) s (here .at) (g .tables)) (sym less-fuel)
         ∙ g .reads
 
-    pub refuses : (n place : ℕ) → x ≡ Step.Refused n place → all file s room limit ≡ refused n place
-    refuses n place e = sym (onward (Step.Refused n place) e)
+    pub refuses : (n place : ℕ) → x ≡ Step.Refused n place → Stopped (length (k .types)) (length (k .code)) l (all file s room limit) n place (here .types) (here .nodes)
+    refuses n place e =
+        record {
+          tables = g .tables;
+          is = sym (onward (Step.Refused n place) e);
+          entries = g .counts .types;
+          nodes-are = g .counts .nodes;
+          holds = g .holds;
+        }
 
     module _ (i : Item) (next : Counts) (e : x ≡ Step.Store i next) (n : isReadable file) where
       moves : Next (fileOf file) s here i next

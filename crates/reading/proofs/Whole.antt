@@ -1,12 +1,12 @@
 -- A file read whole: where the loop starts, and what is left after acceptance and after a refusal.
 -- Assumes nothing.
 use mathlib.Core.Path.{_≡_, refl, sym, ap, _∙_}
-use mathlib.Core.List.{List, [], _∷_}
+use mathlib.Core.List.{List, [], _∷_, _++_}
 use Prim.Native.Nat.{ℕ, _*_, _-_, _≤_, _<_}
 use native.Mathlib.Omega.{arith}
 use borrow.Author.Tests.{le-leb}
-use lib.ListN.{length}
-use Rattle.meaning.specs.Base.{Out, ok, refused, concatMap, zeros, padded, typeWidth, typeCapacity, codeCapacity, capsOf}
+use lib.ListN.{length, drop}
+use Rattle.meaning.specs.Base.{Out, ok, refused, concatMap, zeros, padded, typeWidth, codeWidth, typeCapacity, codeCapacity, capsOf}
 use Rattle.meaning.specs.Types.{kindOf, fieldsOf, tableWords, base}
 use Rattle.meaning.specs.Types as Types
 use Rattle.meaning.specs.Records as Records
@@ -14,7 +14,7 @@ use Rattle.meaning.specs.Records.{nodeWords, Tables, fresh, readFrom, readRecor
 use Rattle.meaning.proofs.Reading.{reads-nothing}
 use Rattle.words.specs.Tables.{stored}
 use Rattle.words.proofs.Rows.{zeros-length}
-use Rattle.words.proofs.Tables.{table-more}
+use Rattle.words.proofs.Tables.{table-more, table-inside, table-cleared, code-inside, code-cleared}
 use Rattle.reading.specs.declared.Counts.{Counts}
 use Rattle.reading.specs.declared.Reached.{Reached}
 use Rattle.reading.specs.declared.Reached.the-variants as Reached
@@ -22,7 +22,7 @@ use Rattle.reading.specs.declared.Read.{Read}
 use Rattle.reading.specs.declared.Reading.the-variants as Reading
 use Rattle.reading.specs.Says.{caps, readOf, Left}
 use Rattle.reading.specs.Steps.{Counted}
-use Rattle.reading.specs.Lists.{Lists, lists, Holds, Blank, Begun, Finished, Ends}
+use Rattle.reading.specs.Lists.{Lists, lists, Holds, Blank, Begun, Finished, Stopped, Ends}
 
 -- A CLEARED TABLE, and one with entries 0 and 1
 nothing-held : (n : ℕ) → zeros n ≡ padded n []
@@ -71,6 +71,17 @@ answer-is : {tw cw : ℕ} (l : Lists) (c : Counts) {t : Tables} → Counted c t 
 unfolding readOf
 answer-is l c n h j = record { answer = Reading.Done (n .types j) (n .nodes j) (n .ended j) (n .result j); given = record { defs = h .defs j; vars = h .vars j; used = n .defs j; declared = n .vars j } }
 
+-- before a refusal no more was stored than there are words
+module _ (tw cw : ℕ) (l : Lists) (o : Out Tables) {x : Reached} (e : Ends tw cw l o x) {n place count nodes : ℕ} (y : x ≡ Reached.Refused n place count nodes) where
+  stopped : Stopped tw cw l o n place count nodes
+  stopped = rw y at e
+
+  pub types-inside : typeWidth * count ≤ length (l .types)
+  types-inside = table-inside tw (stopped .tables .types) (stopped .entries) (stopped .holds .types)
+
+  pub nodes-inside : codeWidth * nodes ≤ length (l .code)
+  nodes-inside = code-inside cw (stopped .tables .code) (stopped .nodes-are) (stopped .holds .code)
+
 module _ {tw cw : ℕ} {r : Read} {u w : List ℕ} where
   refused-left : (n place : ℕ) (o : Out Tables) → o ≡ refused n place → r ≡ readOf (refused n place) → u ≡ zeros tw → w ≡ zeros cw → Left tw cw r u w o
   refused-left n place o e p q k = record { answer = rw e p; types = rw e q; code = rw e k }
@@ -81,8 +92,13 @@ module _ {tw cw : ℕ} {r : Read} {u w : List ℕ} where
 
   module _ (file : Records.File) (s : List ℕ) {room limit : ℕ} (p : room ≡ typeCapacity tw) (q : limit ≡ codeCapacity cw) (two : 2 ≤ typeCapacity tw)
       {tl cl : ℕ} (tlong : tl ≡ tw) (clong : cl ≡ cw) (l : Lists) {x : Reached} (e : Ends tl cl l (readFrom (length s) file (caps room limit) s 0 fresh) x) where
-    pub left-refused : (n place : ℕ) → x ≡ Reached.Refused n place → r ≡ readOf (refused n place) → u ≡ zeros tw → w ≡ zeros cw → Left tw cw r u w (readRecords file (capsOf tw cw) s)
-    left-refused n place y = refused-left n place (readRecords file (capsOf tw cw) s) (read-is file tw cw room limit s p q two ∙ (rw y at e))
+    -- the entries and the nodes that were stored are cleared again, and so is all
+    pub left-refused : {n place count nodes : ℕ} → x ≡ Reached.Refused n place count nodes → r ≡ readOf (refused n place) → length (l .types) ≡ tl → length (l .code) ≡ cl → u ≡ zeros (typeWidth * count) ++ drop (typeWidth * count) (l .types) → w ≡ zeros (codeWidth * nodes) ++ drop (codeWidth * nodes) (l .code) → Left tw cw r u w (readRecords file (capsOf tw cw) s)
+    left-refused {n} {place} {count} {nodes} y a tk ck b d =
+        let f : Stopped tl cl l (readFrom (length s) file (caps room limit) s 0 fresh) n place count nodes = rw y at e in
+        refused-left n place (readRecords file (capsOf tw cw) s) (read-is file tw cw room limit s p q two ∙ f .is) a
+        (table-cleared tl (f .tables .types) (f .entries) (f .holds .types) tk b ∙ ap zeros tlong)
+        (code-cleared cl (f .tables .code) (f .nodes-are) (f .holds .code) ck d ∙ ap zeros clong)
 
     pub left-done : (c : Counts) → x ≡ Reached.Done c → r ≡ record { answer = Reading.Done (c .types) (c .nodes) (c .ended) (c .result); given = record { defs = l .defs; vars = l .vars; used = c .defs; declared = c .vars } } → u ≡ l .types → w ≡ l .code → Left tw cw r u w (readRecords file (capsOf tw cw) s)
     left-done c y a b d =

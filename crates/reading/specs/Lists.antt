@@ -62,13 +62,20 @@ pub record Begun (room limit : ℕ) (l : Lists) : Type 0 where
   pub vars-long : length (l .vars) ≡ 48
   pub holds : Holds (length (l .types)) (length (l .code)) l fresh
 
--- where it ends: at tables that are counted and held, or at a refusal
+-- where it ends: at tables that are counted and held, or at a refusal, with so many entries and nodes stored before it
 pub record Finished (tw cw : ℕ) (l : Lists) (o : Out Tables) (c : Counts) : Type 0 where
   pub tables : Tables
   pub is : o ≡ ok tables
   pub counts : Counted c tables
   pub holds : Holds tw cw l tables
 
+pub record Stopped (tw cw : ℕ) (l : Lists) (o : Out Tables) (n place types nodes : ℕ) : Type 0 where
+  pub tables : Tables
+  pub is : o ≡ refused n place
+  pub entries : types ≡ length (tables .types)
+  pub nodes-are : nodes ≡ length (tables .code)
+  pub holds : Holds tw cw l tables
+
 abbrev pub Ends : ℕ → ℕ → Lists → Out Tables → Reached → Type 0
 Ends tw cw l o (Reached.Done c) = Finished tw cw l o c
-Ends tw cw l o (Reached.Refused n place) = o ≡ refused n place
+Ends tw cw l o (Reached.Refused n place types nodes) = Stopped tw cw l o n place types nodes

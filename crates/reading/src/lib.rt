@@ -188,10 +188,15 @@ fn store(
     }
 }
 
-// How reading ends.
+// How reading ends. A refusal tells how many entries and nodes were stored before it.
 enum Reached {
     Done(Counts),
-    Refused { number: u16, place: usize },
+    Refused {
+        number: u16,
+        place: usize,
+        types: usize,
+        nodes: usize,
+    },
 }
 
 // Reads from the start to the end, with entries 0 and 1 in place and the rest of the tables clear.
@@ -225,7 +230,12 @@ fn read_on(
                 here = next;
             }
             Step::Refused { number, place } => {
-                return Reached::Refused { number, place };
+                return Reached::Refused {
+                    number,
+                    place,
+                    types: here.types,
+                    nodes: here.nodes,
+                };
             }
         }
     }
@@ -318,9 +328,14 @@ fn read_into(file: File, s: &[u8], types: &mut [u16], code: &mut [u16]) -> Read
             };
             Read { answer, given }
         }
-        Reached::Refused { number, place } => {
-            words::clear(types);
-            words::clear(code);
+        Reached::Refused {
+            number,
+            place,
+            types: count,
+            nodes,
+        } => {
+            words::clear_entries(types, count);
+            words::clear_nodes(code, nodes);
             refusal(number, place)
         }
     }

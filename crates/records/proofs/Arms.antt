@@ -1,10 +1,11 @@
 -- What an arm of the `match` over record kinds knows: the kind is one of some single numbers, or it is none of all single numbers and lies in a range.
+-- In a values file: it is one of three, or none of them.
 -- Assumes nothing.
 use mathlib.Core.Path.{_≡_, refl, sym, ap, _∙_}
-use mathlib.Core.Bool.{Bool, true, false, _||_, _&&_}
+use mathlib.Core.Bool.{Bool, true, false, not, _||_, _&&_}
 use mathlib.Core.Logic.{inl, inr}
 use mathlib.Core.List.{List, [], _∷_}
-use mathlib.Core.Option.{none}
+use mathlib.Core.Option.{Option, none, some}
 use Prim.Native.Nat.{ℕ, zero, suc, _+_, _≤_, _<_}
 use native.Mathlib.Omega.{arith}
 use native.Mathlib.Decide.{ℕ-discrete}
@@ -12,11 +13,12 @@ use lib.Dec.{ltb, leb, eqb}
 use borrow.Author.Tests.{ne-eqb, le-ltb, lt-leb}
 use types.Run.{OneOf}
 use Rattle.meaning.specs.Base.{find}
-use Rattle.meaning.specs.Records.{Form, forms}
+use Rattle.meaning.specs.Records.{Form, forms, values, hasSection, ownForm, formIn}
 use Rattle.meaning.proofs.Lists.{never, both-true}
+use Rattle.meaning.proofs.Finding.{find-row, test-rows}
 use Rattle.records.specs.declared.Known.{Known}
 use Rattle.records.specs.declared.Known.the-variants.{Unknown}
-use Rattle.records.specs.Says.{formed, Sized, Formed}
+use Rattle.records.specs.Says.{formed, Sized, Formed, Owned}
 
 -- SINGLE KINDS of the arms, the last arm first
 abbrev pub singles : List (List ℕ)
@@ -103,3 +105,29 @@ in-gap lo hi k (r ∷ rs) e s l h =
 
 pub unknown : (lo hi k : ℕ) → clear lo hi forms ≡ true → Rest singles k → lo ≤ k → k < hi → Formed k Unknown
 unknown lo hi k e r l h = record { is = in-gap lo hi k forms e (not-single singles k r) l h; sized = tt }
+
+-- KINDS OF A VALUES FILE
+pub a-value : (v : Known) (x : ℕ) {k : ℕ} → Sized v → formed v ≡ formIn values x → k ≡ x → Owned values k v
+a-value v x s a h = record { is = a ∙ ap (formIn values) (sym h); sized = s }
+
+isValue : ℕ → Form → Bool
+isValue k f = not (hasSection values (f .section)) || oneOf (64 ∷ 65 ∷ 66 ∷ []) k
+
+value-row : (k : ℕ) (f : Form) → find k forms ≡ some f → isValue k f ≡ true
+unfolding forms isValue oneOf
+value-row k f e = find-row k f (test-rows isValue forms refl) e
+
+not-first : (b c : Bool) → (not b || c) ≡ true → c ≡ false → b ≡ false
+not-first true c e h = never (sym h ∙ e)
+not-first false c e h = refl
+
+foreign : (k : ℕ) → oneOf (64 ∷ 65 ∷ 66 ∷ []) k ≡ false → (o : Option Form) → find k forms ≡ o → none ≡ ownForm values o
+unfolding isValue
+foreign k h none e = refl
+foreign k h (some f) e =
+    ap (λ (b : Bool). elim b as (λ _. Option Form) [ true ↦ some f | false ↦ none ])
+    (sym (not-first (hasSection values (f .section)) (oneOf (64 ∷ 65 ∷ 66 ∷ []) k) (value-row k f e) h))
+
+pub no-value : {k : ℕ} → (k ≡ 64 → ⊥) → (k ≡ 65 → ⊥) → (k ≡ 66 → ⊥) → Owned values k Unknown
+unfolding oneOf
+no-value {k} x y z = record { is = foreign k (rw (ne-eqb k 64 x, ne-eqb k 65 y, ne-eqb k 66 z)) (find k forms) refl; sized = tt }

@@ -1,4 +1,4 @@
--- When a field fits its sort, and when all fields of a record fit: one law for each way that `field_fits` and `item_fits` return.
+-- When a field fits its sort, and when all fields of a record fit: one law for each way that `field_fits`, `item_fits` and `value_fits` return.
 -- Assumes nothing.
 use mathlib.Core.Path.{_≡_, refl, sym, ap, _∙_}
 use mathlib.Core.Bool.{Bool, true, false, not, _&&_}

@@ -1,4 +1,4 @@
--- What stands at a place, by cases: one law for each way that `record_at` returns. And what a record that stands there tells.
+-- What stands at a place, by cases: one law for each way that `record_at` and `value_at` return. And what a record that stands there tells.
 -- Assumes nothing.
 use mathlib.Core.Path.{_≡_, refl, sym, ap, _∙_}
 use mathlib.Core.Bool.{Bool, true, false}
@@ -20,7 +20,7 @@ use Rattle.records.specs.declared.Known.the-variants as Known
 use Rattle.records.specs.declared.Item.{Item}
 use Rattle.records.specs.declared.Rec.{Rec}
 use Rattle.records.specs.declared.Rec.the-variants as Rec
-use Rattle.records.specs.Says.{sectionOf, formOf, formed, Formed, FieldAt, Stands}
+use Rattle.records.specs.Says.{sectionOf, formOf, formed, Formed, Owned, FieldAt, Stands}
 use Rattle.records.proofs.Fields.{fields-are, filled}
 
 -- the form in a file, by whether the file has its section
@@ -43,6 +43,10 @@ module _ (file : Records.File) (s : List ℕ) (at : ℕ) where
   opened : at + 4 ≤ length s → recordAt file s at ≡ rest (formIn file (word s (at + 2)))
   unfolding recordAt rest
   opened h = rw (le-leb (at + 4) (length s) h)
+
+  pub not-own : 4 ≤ length s - at → (k : ℕ) → k ≡ word s (at + 2) → (known : Known) → Owned file k known → known ≡ Known.Unknown → Stands file s at Rec.Strange
+  unfolding rest
+  not-own h k ek known o e = record { is = sym (opened (omega arith) ∙ ap rest (ap (formIn file) (sym ek) ∙ sym (o .is) ∙ ap formed e)); complete = tt }
 
   module _ (h : 4 ≤ length s - at) (k : ℕ) (ek : k ≡ word s (at + 2)) (known : Known) (fk : Formed k known) where
     read-as : (o : Option Records.Form) → formed known ≡ o → recordAt file s at ≡ rest (ownForm file o)
@@ -87,6 +91,12 @@ module _ (file : Records.File) (s : List ℕ) (at : ℕ) where
                   (λ j. ok (record { kind = sym ek j; form = formOf f; fields = sym (fields-are s at i long fa fb fc) j; next = at + sym long j })));
               complete = filled s at i long fa fb fc;
             }
+
+-- A FORM IN A FILE is that of its kind, of a section that the file has
+pub own-formed : {file : Records.File} {k : ℕ} {known : Known} (f : Form) → Owned file k known → known ≡ Known.As f → Formed k (Known.As f) × (true ≡ hasSection file (sectionOf (f .section)))
+own-formed {file} {k} f o e =
+    let own = own-form file (find k forms) (formOf f) (sym (o .is) ∙ ap formed e) in
+    (record { is = sym (own .0); sized = rw e at (o .sized) }, sym (own .1))
 
 -- A RECORD THAT STANDS THERE is of a known kind, of a section that its file has, and ends within the file
 pub record Known-there (file : Records.File) (s : List ℕ) (at : ℕ) (r : Record) : Type 0 where

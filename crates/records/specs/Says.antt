@@ -7,7 +7,7 @@ use Prim.Native.Nat.{ℕ, zero, suc, _+_, _-_, _/_, _≤_, _<_}
 use lib.ListN.{length, take}
 use Rattle.meaning.specs.Base.{Out, ok, refused, find, word}
 use Rattle.meaning.specs.Records as Records
-use Rattle.meaning.specs.Records.{Section, types, definitions, variables, query, result, value, form, forms, lengthOf, Record, field, recordAt}
+use Rattle.meaning.specs.Records.{Section, types, definitions, variables, query, result, value, form, forms, formIn, lengthOf, Record, field, recordAt}
 use Rattle.records.specs.declared.Sort.{Sort}
 use Rattle.records.specs.declared.Sort.the-variants as Sort
 use Rattle.records.specs.declared.File.{File}
@@ -66,6 +66,11 @@ Sized (Known.As f) = f .length ≡ lengthOf (formOf f)
 -- what is known of a kind is what the grammar says
 pub record Formed (kind : ℕ) (k : Known) : Type 0 where
   pub is : formed k ≡ find kind forms
+  pub sized : Sized k
+
+-- what is known of a kind is its form in a file
+pub record Owned (file : Records.File) (kind : ℕ) (k : Known) : Type 0 where
+  pub is : formed k ≡ formIn file kind
   pub sized : Sized k
 
 -- A WHOLE RECORD

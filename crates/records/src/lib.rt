@@ -1,12 +1,13 @@
 // One record of a job, an answer file or a values file: its kind decides its section, its length and the sorts of its fields. Refusals 1 to 3, and
 // whether the fields fit.
 ghost use mathlib.Core.Path.{_≡_};
+ghost use mathlib.Core.List.{[]};
 ghost use Prim.Native.Nat.{_+_, _*_, _^_, _≤_, _<_};
 ghost use lib.ListN.{length};
 ghost use Rattle.meaning.specs.Base.{codeWidth};
-ghost use Rattle.meaning.specs.Records.{hasSection, fits, allFit};
+ghost use Rattle.meaning.specs.Records.{values, hasSection, fits, allFit};
 ghost use Rattle.words.specs.Tables.{codeOf};
-ghost use Rattle.records.specs.Says.{sortOf, fileOf, sectionOf, sortsOf, fieldsOf, Formed, FieldAt, Stands};
+ghost use Rattle.records.specs.Says.{sortOf, fileOf, sectionOf, sortsOf, fieldsOf, Formed, Owned, FieldAt, Stands};
 
 // What a field is: a label, the number of a type entry, of a definition or of a variable, any word, a query node that is no condition, a condition.
 pub enum Sort {
@@ -261,6 +262,70 @@ pub fn record_at(file: File, s: &[u8], at: usize) -> Rec
     }
     let length = form.length;
     if words::wide(words::word(s, at)) != length {
+        return Rec::Misfit; // a known kind
+    }
+    if left < length {
+        return Rec::Cut;
+    }
+    let next = at + length;
+    let a = field_at(s, at + 4, next);
+    let b = field_at(s, at + 6, next);
+    let c = field_at(s, at + 8, next);
+    Rec::Whole(Item {
+        kind,
+        a,
+        b,
+        c,
+        form,
+        next,
+    })
+}
+
+// The form of a kind in a values file.
+fn value_form(kind: u16) -> Known
+    ensures { λ r. ⌜ Owned values kind r ⌝ }
+{
+    match kind {
+        64 => Known::As(Form {
+            section: 5,
+            length: 6,
+            a: Sort::AnyWord,
+            b: Sort::AnyWord,
+            c: Sort::AnyWord,
+        }),
+        65 => Known::As(Form {
+            section: 5,
+            length: 8,
+            a: Sort::Label,
+            b: Sort::AnyWord,
+            c: Sort::AnyWord,
+        }),
+        66 => Known::As(Form {
+            section: 5,
+            length: 8,
+            a: Sort::VarNo,
+            b: Sort::AnyWord,
+            c: Sort::AnyWord,
+        }),
+        _ => Known::Unknown,
+    }
+}
+
+// The record at a place of a values file. It stands apart from `record_at`, so that each has one caller and is compiled into it.
+pub fn value_at(s: &[u8], at: usize) -> Rec
+    requires { ⌜ at ≤ length (now s) ⌝ }
+    ensures { λ r. ⌜ Stands values (now (s .entry)) at r ⌝ }
+{
+    let left = s.len() - at;
+    if left < 4 {
+        return Rec::Cut;
+    }
+    let kind = words::word(s, at + 2);
+    let Known::As(form) = value_form(kind) else {
+        return Rec::Strange;
+    };
+    let length = form.length;
+    if words::wide(words::word(s, at)) != length {
         return Rec::Misfit;
     }
     if left < length {
@@ -339,4 +404,32 @@ pub fn item_fits(i: Item, types: usize, code: &[u16], nodes: usize) -> bool
     }
     let of_c = form.c;
     field_fits(of_c, i.c, types, code, nodes)
+}
+
+// Whether all fields of a record fit where there are neither type entries nor query nodes.
+pub fn value_fits(i: Item) -> bool
+    ensures { λ r. ⌜ r ≡ allFit 0 [] (sortsOf (i .form)) (fieldsOf i) ⌝ }
+{
+    let code = [0u16; 1];
+    let form = i.form;
+    let length = form.length;
+    if length < 6 {
+        return true;
+    }
+    let of_a = form.a;
+    if !field_fits(of_a, i.a, 0, &code, 0) {
+        return false;
+    }
+    if length < 8 {
+        return true;
+    }
+    let of_b = form.b;
+    if !field_fits(of_b, i.b, 0, &code, 0) {
+        return false;
+    }
+    if length < 10 {
+        return true;
+    }
+    let of_c = form.c;
+    field_fits(of_c, i.c, 0, &code, 0)
 }

@@ -17,7 +17,7 @@ use Rattle.meaning.proofs.Finding.{find-at}
 use Rattle.meaning.proofs.Reading.{capsOf-small, vars-wider}
 use Rattle.meaning.proofs.Accepting.{Accepted, accepts}
 use Rattle.words.specs.Tables.{tableOf, codeOf, varsOf}
-use Rattle.words.proofs.Rows.{rows-length}
+use Rattle.words.proofs.Rows.{padded-most, rows-length}
 use Rattle.words.proofs.Tables.{table-length, node-wide}
 use Rattle.scope.specs.declared.Scope.{Scope}
 use Rattle.scope.specs.Shows.{Shows}
@@ -25,7 +25,7 @@ use Rattle.reading.specs.declared.Given.{Given}
 use Rattle.reading.specs.Says.{varWords, Held}
 use Rattle.reading.proofs.Decoding.{var-wide}
 use Rattle.reading.proofs.Leaving.{Finished}
-use Rattle.jobs.proofs.Checking.{padded-most, held-stored}
+use Rattle.jobs.proofs.Checking.{held-stored}
 use Rattle.classes.specs.Classes.{Filled}
 use Rattle.grow.specs.Grow.{After}
 use Rattle.grow.specs.declared.Made.{Made}

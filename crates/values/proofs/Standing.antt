@@ -13,7 +13,6 @@ use Rattle.meaning.specs.Kinds.{value·variable}
 use Rattle.meaning.specs.Records as Records
 use Rattle.meaning.specs.Records.{Record, field, recordAt, allFit}
 use Rattle.meaning.specs.Values.{valueAt}
-use Rattle.words.specs.Tables.{codeOf}
 use Rattle.records.specs.declared.Item.{Item}
 use Rattle.records.specs.declared.Rec.{Rec}
 use Rattle.records.specs.declared.Rec.the-variants as Rec
@@ -45,13 +44,13 @@ module _ {o : Out Record} {d : Due} (st : Stands o d) where
       go (there r q h) = record { line = r; is = q; shows = h }
 
 -- THE FIELDS
-module _ (i : Item) (at : ℕ) (ws : List ℕ) {r : Bool} (q : r ≡ allFit 0 (codeOf ws 0) (itemOf i .form .sorts) (itemOf i .fields)) where
+module _ (i : Item) (at : ℕ) {r : Bool} (q : r ≡ allFit 0 [] (itemOf i .form .sorts) (itemOf i .fields)) where
   pub unfit : not r ≡ true → Filled i → Stands (fitted (itemOf i) at) (Due.Wrong at)
-  unfolding fitted codeOf
+  unfolding fitted
   unfit e f = let z : allFit 0 [] (itemOf i .form .sorts) (itemOf i .fields) ≡ false = sym q ∙ not-true r e in let y : fitted (itemOf i) at ≡ refused 18 at = simp (fitted, z) refl in wrong y
 
   pub fit : not r ≡ false → Filled i → Stands (fitted (itemOf i) at) (Due.There (record { kind = i .kind; a = i .a; b = i .b; next = i .next }))
-  unfolding fitted codeOf
+  unfolding fitted
   fit e f =
       let z : allFit 0 [] (itemOf i .form .sorts) (itemOf i .fields) ≡ true = sym q ∙ not-false r e in
       there (itemOf i) (simp (fitted, z) refl) (record { kind = refl; a = f .a; b = f .b; next = refl })

@@ -9,7 +9,6 @@ ghost use Rattle.words.specs.Tables.{varsOf};
 ghost use Rattle.words.specs.Says.{found};
 ghost use Rattle.records.specs.Says.{itemOf, Filled};
 ghost use Rattle.values.specs.Says.{Stands, fitted, isEntry, entryAt, headAt, wordsOf, Adds, Reads, Single, Odd, Gives, placeIf, earlierOf, Deep, Blank, Scans, verdict, inTurn, Settles, Left};
-use records::File;
 use records::Item;
 use records::Rec;
 use words::Found;
@@ -28,12 +27,11 @@ pub enum Due {
     There(Line),
 }
 
-// A whole record at a place, where its fields fit. None of them names a query node, so the query table is of no account.
+// A whole record at a place, where its fields fit.
 fn fitting(i: Item, at: usize) -> Due
     ensures { λ r. ⌜ (Filled i → Stands (fitted (itemOf i) at) r) ⌝ }
 {
-    let code = [0u16; 1];
-    if !records::item_fits(i, 0, &code, 0) {
+    if !records::value_fits(i) {
         return Due::Wrong(at);
     }
     Due::There(Line {
@@ -49,7 +47,7 @@ fn value_at(s: &[u8], at: usize) -> Due
     requires { ⌜ at ≤ length (now s) ⌝ }
     ensures { λ r. ⌜ Stands (valueAt (now (s .entry)) at) r ⌝ }
 {
-    match records::record_at(File::Values, s, at) {
+    match records::value_at(s, at) {
         Rec::Cut => Due::Wrong(at),
         Rec::Strange => Due::Wrong(at),
         Rec::Misfit => Due::Wrong(at),

@@ -6,8 +6,8 @@ use mathlib.Core.List.{List, [], _∷_, _++_, append-assoc, append-nil}
 use Prim.Native.Nat.{ℕ, zero, suc, _+_, _*_, _-_, _≤_, _<_}
 use native.Mathlib.Omega.{arith}
 use native.Mathlib.Nat.{mul-suc, mul-le-mul-left}
-use lib.ListN.{length, getD, drop, replicate, length-append, length-replicate, List·getD-append}
-use lib.Seq.{getD-append-add, take-at, drop-append-add}
+use lib.ListN.{length, getD, drop, replicate, length-append, length-replicate, replicate-append-replicate, List·getD-append}
+use lib.Seq.{getD-append-add, take-at, drop-at, drop-append-add}
 use Rattle.meaning.specs.Base.{concatMap, zeros, padded}
 use Rattle.words.specs.Tables.{stored}
 
@@ -27,6 +27,17 @@ unfolding stored
 stored-behind n ws vs h =
     rw (take-at ws (zeros (n - length ws)) (length ws) refl, drop-append-add ws (zeros (n - length ws)) (length vs), drop-zeros (length vs) (n - length ws))
     (sym (append-assoc ws vs _) ∙ ap (λ (k : ℕ). (ws ++ vs) ++ zeros k) {x = n - length ws - length vs} {y = n - length (ws ++ vs)} (omega (arith, length-append ws vs)))
+
+-- a padded list is no shorter than what it holds
+pub padded-most : (n : ℕ) (ws : List ℕ) → length ws ≤ length (padded n ws)
+padded-most n ws = omega (arith, length-append ws (zeros (n - length ws)))
+
+-- zeros over the words that a lent list holds: all of it is zero
+pub front-cleared : (n : ℕ) {k : ℕ} {t : List ℕ} (ws : List ℕ) → length ws ≡ k → k ≤ n → t ≡ padded n ws → zeros k ++ drop k t ≡ zeros n
+unfolding zeros
+front-cleared n {k} ws l h e =
+    rw (e, drop-at ws (zeros (n - length ws)) k l, replicate-append-replicate {A = ℕ} k (n - length ws) 0)
+    (ap zeros {x = k + (n - length ws)} {y = n} (omega (arith, l, h)))
 
 module _ {A : Type 0} (f : A → List ℕ) (w : ℕ) (wide : (x : A) → length (f x) ≡ w) where
   pub rows-length : (T : List A) → length (concatMap f T) ≡ w * length T

@@ -37,6 +37,10 @@ pub cleared-all : (d : List ℕ) (n : ℕ) (t : List ℕ) → Cleared d n t → 
 unfolding zeros
 cleared-all d n t h l = h .2 ∙ rw (drop-of-length-le d l, append-nil, le-antisymm (h .0) l) refl
 
+-- a list of which a part at the front was lent and cleared
+pub cleared-front : (d : List ℕ) (n : ℕ) {t : List ℕ} → n ≤ length d → t ≡ zeros (length (take n d)) → t ++ drop n d ≡ zeros n ++ drop n d
+cleared-front d n l e = ap (λ (x : List ℕ). x ++ drop n d) (e ∙ ap zeros (length-take-le n d l))
+
 -- a list that is cleared from a place on, up to another
 pub record Blanked (d : List ℕ) (from i : ℕ) (t : List ℕ) : Type 0 where
   pub low : from ≤ i

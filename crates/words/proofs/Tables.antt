@@ -5,14 +5,14 @@ use mathlib.Core.List.{List, [], _∷_, _++_}
 use Prim.Native.Nat.{ℕ, zero, suc, _+_, _*_, _≤_, _<_}
 use native.Mathlib.Omega.{arith}
 use native.Mathlib.Decide.{ℕ-discrete}
-use lib.ListN.{length, getD, take, length-append, List·getD-append}
+use lib.ListN.{length, getD, take, drop, length-append, List·getD-append}
 use lib.Seq.{take-suc, take-length, getD-append-seam}
 use Rattle.meaning.specs.Base.{find, zeros, padded, concatMap, typeWidth, codeWidth}
 use Rattle.meaning.specs.Types as Types
 use Rattle.meaning.specs.Types.{Entry, Table, kindOf, fieldsOf, entryWords, tableWords, entryOf, at}
 use Rattle.meaning.specs.Records.{Var, Node, node, nodeAt, nodeWords}
 use Rattle.words.specs.Tables.{stored, entryAt, nodeIn, varIn, tableOf, codeOf, varsOf}
-use Rattle.words.proofs.Rows.{lent-at, lent-first, row-more}
+use Rattle.words.proofs.Rows.{padded-most, front-cleared, rows-length, lent-at, lent-first, row-more}
 
 -- an entry's words are three, and the entry is made of them
 pub entry-wide : (x : Entry) → length (entryWords x) ≡ typeWidth
@@ -131,3 +131,18 @@ table-more n T x k a b e h = rw (← e) (row-more entryWords typeWidth entry-wid
 pub code-more : (n : ℕ) (C : List Node) (k a b c : ℕ) → codeWidth * length C + codeWidth ≤ n
     → stored (padded n (concatMap nodeWords C)) (codeWidth * length C) (k ∷ a ∷ b ∷ c ∷ []) ≡ padded n (concatMap nodeWords (C ++ (node k a b c ∷ [])))
 code-more n C k a b c h = row-more nodeWords codeWidth node-wide n C (node k a b c) h
+
+-- INSIDE the lent words are those of the entries and of the nodes; once they are cleared, all of it is zero
+module _ (n : ℕ) {k : ℕ} {t : List ℕ} (T : Table) (l : k ≡ length T) (e : t ≡ padded n (tableWords T)) where
+  pub table-inside : typeWidth * k ≤ length t
+  table-inside = rw e (omega (arith, l, rows-length entryWords typeWidth entry-wide T, padded-most n (tableWords T)))
+
+  pub table-cleared : {u : List ℕ} → length t ≡ n → u ≡ zeros (typeWidth * k) ++ drop (typeWidth * k) t → u ≡ zeros n
+  table-cleared q c = c ∙ front-cleared n (tableWords T) (omega (arith, l, rows-length entryWords typeWidth entry-wide T)) (omega (arith, table-inside, q)) e
+
+module _ (n : ℕ) {k : ℕ} {t : List ℕ} (C : List Node) (l : k ≡ length C) (e : t ≡ padded n (concatMap nodeWords C)) where
+  pub code-inside : codeWidth * k ≤ length t
+  code-inside = rw e (omega (arith, l, rows-length nodeWords codeWidth node-wide C, padded-most n (concatMap nodeWords C)))
+
+  pub code-cleared : {u : List ℕ} → length t ≡ n → u ≡ zeros (codeWidth * k) ++ drop (codeWidth * k) t → u ≡ zeros n
+  code-cleared q c = c ∙ front-cleared n (concatMap nodeWords C) (omega (arith, l, rows-length nodeWords codeWidth node-wide C)) (omega (arith, code-inside, q)) e

@@ -1,9 +1,9 @@
 // Words in bytes, entries and nodes in lent tables, clearing, copying, and the test word: the leaves that reading, typing and running share.
 // Only these functions know how many words an entry has.
 ghost use mathlib.Core.Path.{_≡_};
-ghost use mathlib.Core.List.{[], _∷_};
+ghost use mathlib.Core.List.{[], _∷_, _++_};
 ghost use Prim.Native.Nat.{_+_, _*_, _≤_, _<_};
-ghost use lib.ListN.{length, getD, take};
+ghost use lib.ListN.{length, getD, take, drop};
 ghost use Rattle.meaning.specs.Base.{word, bytesOf, zeros, padded, typeWidth, codeWidth, typeCapacity, codeCapacity, workCapacity};
 ghost use Rattle.meaning.specs.Forests.{passes};
 ghost use Rattle.meaning.specs.Records.{isCondition};
@@ -139,6 +139,23 @@ pub fn clear(t: &mut [u16])
         t[i] = 0;
         i += 1;
     }
+}
+
+// Zeros in the first entries and in the first nodes of a table.
+pub fn clear_entries(t: &mut [u16], n: usize)
+    requires { ⌜ typeWidth * n ≤ length (now t) ⌝ }
+    ensures { λ _. ⌜ now (t .exit) ≡ zeros (typeWidth * n) ++ drop (typeWidth * n) (now (t .entry)) ⌝ }
+{
+    let end = 3 * n;
+    clear(&mut t[..end]);
+}
+
+pub fn clear_nodes(t: &mut [u16], n: usize)
+    requires { ⌜ codeWidth * n ≤ length (now t) ⌝ }
+    ensures { λ _. ⌜ now (t .exit) ≡ zeros (codeWidth * n) ++ drop (codeWidth * n) (now (t .entry)) ⌝ }
+{
+    let end = 4 * n;
+    clear(&mut t[..end]);
 }
 
 // Zeros in a buffer from an offset on.

@@ -1,8 +1,10 @@
--- `jobs::settle` meets its contract: the checks passed and the tables stay, or both are cleared. Assumes nothing.
-use mathlib.Core.Path.{ap, sym, _∙_}
+-- `jobs::settle` meets its contract: the checks passed and the tables stay, or what was read is cleared, behind which both are clear. Assumes nothing.
+use mathlib.Core.Path.{refl, ap, sym, _∙_}
+use Rattle.words.proofs.Tables.{table-cleared, code-cleared}
 use Rattle.checks.specs.Says.{passed}
 use Rattle.jobs.proofs.Checking.{passed-leaves, refused-leaves}
 use borrow.Author.Needs.{needs}
+use native.Mathlib.Omega.{arith}
 use Rattle.jobs.proofs.settle.Statement.{statement}
 use Rattle.jobs.proofs.settle.Tie as tie
 
@@ -15,11 +17,13 @@ enum-told c = search needs
 enum-known-number : tie.Need-enum-known-number
 enum-known-number c = search needs
 
-clear-requires : tie.Need-clear-requires
-clear-requires c κs = search needs
+clear-entries-requires : tie.Need-clear-entries-requires
+clear-entries-requires c κs =
+    omega (arith, (c .before .before .before .before .before .before .before .before .before) .pre .types-inside)
 
-clear-requires-2 : tie.Need-clear-requires-2
-clear-requires-2 c κs = search needs
+clear-nodes-requires : tie.Need-clear-nodes-requires
+clear-nodes-requires c κs =
+    omega (arith, (c .before .before .before .before .before .before .before .before .before .before .before .before .before) .pre .code-inside)
 
 refusal-requires : tie.Need-refusal-requires
 refusal-requires c κs = search needs
@@ -32,7 +36,7 @@ same-length-2 c = search needs
 
 returns : tie.Need-returns
 returns c =
-    let check = c .before .before .check in
+    let check = (c .before .before) .check in
     record { leaves = λ t held stored. passed-leaves held _ (sym (ap (passed t) (c .enum-told .given .1)) ∙ check .ensures t stored) }
 
 same-length-3 : tie.Need-same-length-3
@@ -43,25 +47,9 @@ same-length-4 c = search needs
 
 returns-2 : tie.Need-returns-2
 returns-2 c =
-    let check = c .before .before .before .before .before .before .before .before .before .before .before .before .check in
-    let number = c .before .before .before .before .before .before .before .before .before .before .number in
-    let clear = c .before .before .before .before .before .before .before .clear in
-    let clear2 = c .before .before .before .clear2 in
-    record { leaves = λ t held stored. refused-leaves _ (sym (ap (passed t) (number .given .1)) ∙ check .ensures t stored) (c .refusal .ensures) (clear .ensures) (clear2 .ensures) }
+    let check = (c .before .before .before .before .before .before .before .before .before .before .before .before) .check in
+    let number = (c .before .before .before .before .before .before .before .before .before .before) .number in
+    record { leaves = λ t held stored. refused-leaves _ (sym (ap (passed t) (number .given .1)) ∙ check .ensures t stored) (c .refusal .ensures) (table-cleared _ (t .types) (held .entries) (held .types) refl ((c .before .before .before .before .before .before .before) .clear-entries .ensures)) (code-cleared _ (t .code) (held .nodes-are) (held .code) refl ((c .before .before .before) .clear-nodes .ensures)) }
 
 pub settle-spec : {M : Type 1} → statement M
-settle-spec =
-    tie.close
-    (tie.spec
-    check-requires
-    enum-told
-    enum-known-number
-    clear-requires
-    clear-requires-2
-    refusal-requires
-    same-length
-    same-length-2
-    returns
-    same-length-3
-    same-length-4
-    returns-2)
+settle-spec = tie.close (tie.spec check-requires enum-told enum-known-number clear-entries-requires clear-nodes-requires refusal-requires same-length same-length-2 returns same-length-3 same-length-4 returns-2)
