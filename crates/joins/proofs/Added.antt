@@ -1,63 +1,31 @@
--- The steps after a part: a refusal passes through, and what is added to an entry follows the rule that the part followed.
+-- After a source: its own refusal, or what 14 says of the variable.
 -- Assumes nothing.
 use mathlib.Core.Path.{_≡_, refl, ap, sym, subst, _∙_}
 use mathlib.Core.List.{List}
-use Prim.Native.Nat.{ℕ, _≤_, _<_}
+use Prim.Native.Nat.{ℕ, _≤_}
 use native.Mathlib.Omega.{arith}
-use lib.ListN.{length, getD}
+use lib.ListN.{getD}
 use Rattle.meaning.specs.Base as Base
-use Rattle.meaning.specs.Base.{Out, ok, refused, typeCapacity}
-use Rattle.meaning.specs.Types.{Entry, Table, Defs}
-use Rattle.meaning.specs.Rules.{after, fromOut, Rule, append, times}
+use Rattle.meaning.specs.Base.{Out, ok, refused}
+use Rattle.meaning.specs.Types.{Table, Defs}
+use Rattle.meaning.specs.Rules.{after, fromOut}
 use Rattle.meaning.specs.Typing as Typing
 use Rattle.meaning.specs.Typing.{unbound}
 use Rattle.words.specs.Tables.{tableOf}
-use Rattle.classes.specs.Classes.{classOf}
 use Rattle.scope.specs.declared.Scope.{Scope}
 use Rattle.scope.specs.Shows.{Shows}
 use Rattle.conds.specs.Says.{verdict, Answers}
 use Rattle.conds.specs.declared.Verdict.{Verdict}
 use Rattle.conds.specs.declared.Verdict.the-variants as Verdict
 use Rattle.conds.proofs.Told.{fine-told, verdict-refused, unbound-free}
-use Rattle.grow.specs.Grow.{Ready, Left, New}
+use Rattle.grow.specs.Grow.{Left}
 use Rattle.grow.specs.declared.Made.{Made}
 use Rattle.grow.specs.declared.Made.the-variants as Made
 use Rattle.grow.proofs.Steps.{left-here, left-stop, left-after, left-ready}
 use Rattle.leaves.specs.declared.Walked.{Walked}
 use Rattle.leaves.proofs.Steps.{left-as, left-refused}
-use Rattle.joins.specs.Joins.{Few, Adds, Repeats, chosen, Frees}
+use Rattle.joins.specs.Joins.{chosen, Frees}
 
--- an entry's number that fits a word
-pub few-entry : {r : Made} {e m : ℕ} → r ≡ Made.Entry e m → Few r → e < 4096
-few-entry p h = subst Few p h
-
-through : {D : Defs} {ws us cs ds : List ℕ} {r : Made} {k place : ℕ} {x : Out (Table × ℕ)} (f : ℕ → Rule ℕ) → r ≡ Made.Refused k place → Left D ws us cs ds r x → Left D ws us cs ds (Made.Refused k place) (after x f)
-through {D} {ws} {us} {cs} {ds} {x = x} f p h = subst (λ (o : Made). Left D ws us cs ds o (after x f)) p (left-stop f p h)
-
-module _ {us ds : List ℕ} (n : ℕ) {part : Walked} where
-  -- ADD
-  module _ (kind a : ℕ) where
-    pub add-stops : {k place : ℕ} → part .made ≡ Made.Refused k place → Adds us us ds ds n kind a part (record { made = Made.Refused k place; scope = part .scope })
-    add-stops p = record { kept = refl; is = λ D make ws cs x new h. through (λ e. append (typeCapacity (length ws)) n (make e)) p h }
-
-    pub add-adds : {vs es : List ℕ} {e m : ℕ} {o : Made} → part .made ≡ Made.Entry e m
-        → ((D : Defs) (x : Entry) → New m kind a e x → Ready D us ds m → Left D us vs ds es o (append (typeCapacity (length us)) n x (tableOf us m)))
-        → Adds us vs ds es n kind a part (record { made = o; scope = part .scope })
-    add-adds {e = e} {m} p h =
-        record { kept = refl; is = λ D make ws cs x new l. left-after (λ room e. append room n (make e)) p l (h D (make e) (new e m p) (left-ready p l .0)) }
-
-  -- REPEAT
-  module _ (class : ℕ) where
-    pub repeat-stops : {k place : ℕ} → part .made ≡ Made.Refused k place → Repeats us us ds ds n class part (record { made = Made.Refused k place; scope = part .scope })
-    repeat-stops p = record { kept = refl; is = λ D ws cs x h. through (λ u. times (typeCapacity (length ws)) n u (classOf class)) p h }
-
-    pub repeat-repeats : {vs es : List ℕ} {e m : ℕ} {o : Made} → part .made ≡ Made.Entry e m
-        → ((D : Defs) → Ready D us ds m → e < m → Left D us vs ds es o (times (typeCapacity (length us)) n e (classOf class) (tableOf us m)))
-        → Repeats us vs ds es n class part (record { made = o; scope = part .scope })
-    repeat-repeats p h =
-        record { kept = refl; is = λ D ws cs x l. left-after (λ room u. times room n u (classOf class)) p l (h D (left-ready p l .0) (left-ready p l .1)) }
-
--- FREE
 refused-entry : {A : Type 0} {r : Made} {k place e m : ℕ} → r ≡ Made.Refused k place → r ≡ Made.Entry e m → A
 refused-entry p q = let z : _≡_ {A = ℕ} 0 1 = cc in absurd (omega arith)
 

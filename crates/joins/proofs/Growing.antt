@@ -13,7 +13,6 @@ use Rattle.meaning.specs.Types.{Table, Defs}
 use Rattle.meaning.specs.Records as Records
 use Rattle.meaning.specs.Records.{typeIn}
 use Rattle.meaning.specs.Queries.{Query}
-use Rattle.meaning.specs.Typing as Typing
 use Rattle.meaning.specs.Typing.{State}
 use Rattle.meaning.proofs.Lists.{absurd-option}
 use Rattle.meaning.proofs.Ends.{Ends, gives, stops}

@@ -13,11 +13,12 @@ use Rattle.meaning.specs.Queries.{Query}
 use Rattle.meaning.specs.Rules.{after, fromOut, Rule, append, prime, times}
 use Rattle.meaning.specs.Typing as Typing
 use Rattle.meaning.specs.Typing.{unbound}
+use Rattle.words.specs.Tables.{tableOf}
 use Rattle.classes.specs.Classes.{classOf}
 use Rattle.scope.specs.Shows.{Shows}
 use Rattle.conds.specs.declared.Verdict.{Verdict}
 use Rattle.conds.specs.declared.Verdict.the-variants as Verdict
-use Rattle.grow.specs.Grow.{Left, New}
+use Rattle.grow.specs.Grow.{Ready, Left, New}
 use Rattle.grow.specs.declared.Made.{Made}
 use Rattle.grow.specs.declared.Made.the-variants as Made
 use Rattle.leaves.specs.declared.Walked.{Walked}
@@ -31,21 +32,13 @@ sourced room D n g v p = λ t. after (walked room D p g t) (λ e. fromOut (Base.
 abbrev pub loop : ℕ → Defs → ℕ → Typing.Scope → ℕ → Query → ℕ → Rule ℕ
 loop room D n g v q e = λ t. after (prime room n (shape D t e) t) (λ x s. after (walked room D q ((v, Records.tree x) ∷ g) s) (λ u. times room n u (quant (shape D t e))))
 
--- an entry's number fits a word
-abbrev pub Few : Made → Type 0
-Few (Made.Entry e m) = e < 4096
-Few (Made.Refused k place) = Unit {0}
+-- ADD: where entry x has this kind, first field a and the part's entry, it is appended to any table that these words show
+pub record Adds (ws us cs ds : List ℕ) (count n kind a at : ℕ) (r : Made) : Type 0 where
+  pub is : (D : Defs) (x : Entry) → New count kind a at x → Ready D ws cs count → Left D ws us cs ds r (append (typeCapacity (length ws)) n x (tableOf ws count))
 
--- ADD: after any rule x that the part followed, an entry of this kind with first field a and the part's entry is appended
-pub record Adds (us vs ds es : List ℕ) (n kind a : ℕ) (part r : Walked) : Type 0 where
-  pub kept : r .scope ≡ part .scope
-  pub is : (D : Defs) (make : ℕ → Entry) (ws cs : List ℕ) (x : Out (Table × ℕ)) → ((e m : ℕ) → part .made ≡ Made.Entry e m → New m kind a e (make e))
-      → Left D ws us cs ds (part .made) x → Left D ws vs cs es (r .made) (after x (λ e. append (typeCapacity (length ws)) n (make e)))
-
--- REPEAT: after any rule x that the part followed comes U.q
-pub record Repeats (us vs ds es : List ℕ) (n class : ℕ) (part r : Walked) : Type 0 where
-  pub kept : r .scope ≡ part .scope
-  pub is : (D : Defs) (ws cs : List ℕ) (x : Out (Table × ℕ)) → Left D ws us cs ds (part .made) x → Left D ws vs cs es (r .made) (after x (λ u. times (typeCapacity (length ws)) n u (classOf class)))
+-- REPEAT: U.q of the part's entry
+pub record Repeats (ws us cs ds : List ℕ) (count n class at : ℕ) (r : Made) : Type 0 where
+  pub is : (D : Defs) → Ready D ws cs count → at < count → Left D ws us cs ds r (times (typeCapacity (length ws)) n at (classOf class) (tableOf ws count))
 
 -- a source's own refusal comes before 14
 abbrev pub chosen : Made → Verdict → Made

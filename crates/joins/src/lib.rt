@@ -1,9 +1,9 @@
-// What a query adds to the walks of its parts: an element or a pair around them, U.q, and 14 after the source of let and for. Each takes what a part's
-// walk left and answers in the same form, so that a refusal passes through.
+// What a query adds to the walks of its parts: an element or a pair around them, U.q, and 14 after the source of let and for. The first two take a part's
+// entry; 14 takes what the source's walk left and answers in the same form, so that a refusal passes through.
 ghost use mathlib.Core.Path.{_≡_};
-ghost use Prim.Native.Nat.{_≤_};
+ghost use Prim.Native.Nat.{_≤_, _<_};
 ghost use lib.ListN.{length};
-ghost use Rattle.joins.specs.Joins.{Few, Adds, Repeats, chosen, Frees};
+ghost use Rattle.joins.specs.Joins.{Adds, Repeats, chosen, Frees};
 use conds::Verdict;
 use grow::Made;
 use leaves::Walked;
@@ -12,45 +12,31 @@ use leaves::Walked;
 pub fn add(
     types: &mut [u16],
     classes: &mut [u16],
+    count: usize,
     n: usize,
     kind: u16,
     a: u16,
-    part: Walked,
-) -> Walked
-    requires { ⌜ (4096 ≤ length (now classes)) × Few (part .made) ⌝ }
-    ensures { λ r. ⌜ Adds (now (types .entry)) (now (types .exit)) (now (classes .entry)) (now (classes .exit)) n kind a part r ⌝ }
+    at: usize,
+) -> Made
+    requires { ⌜ (4096 ≤ length (now classes)) × (at < 4096) ⌝ }
+    ensures { λ r. ⌜ Adds (now (types .entry)) (now (types .exit)) (now (classes .entry)) (now (classes .exit)) count n kind a at r ⌝ }
 {
-    let made = part.made;
-    let scope = part.scope;
-    match made {
-        Made::Entry { at, count } => {
-            let made = grow::append(types, classes, count, n, kind, a, at as u16);
-            return Walked { made, scope };
-        }
-        Made::Refused { number, place } => {
-            let made = Made::Refused { number, place };
-            return Walked { made, scope };
-        }
-    }
+    grow::append(types, classes, count, n, kind, a, at as u16)
 }
 
 // U.q of the part's entry, for node n.
-pub fn repeat(types: &mut [u16], classes: &mut [u16], n: usize, class: u16, part: Walked) -> Walked
-    requires { ⌜ (4096 ≤ length (now classes)) × Few (part .made) ⌝ }
-    ensures { λ r. ⌜ Repeats (now (types .entry)) (now (types .exit)) (now (classes .entry)) (now (classes .exit)) n class part r ⌝ }
+pub fn repeat(
+    types: &mut [u16],
+    classes: &mut [u16],
+    count: usize,
+    n: usize,
+    class: u16,
+    at: usize,
+) -> Made
+    requires { ⌜ (4096 ≤ length (now classes)) × (at < 4096) ⌝ }
+    ensures { λ r. ⌜ Repeats (now (types .entry)) (now (types .exit)) (now (classes .entry)) (now (classes .exit)) count n class at r ⌝ }
 {
-    let made = part.made;
-    let scope = part.scope;
-    match made {
-        Made::Entry { at, count } => {
-            let made = walks::times(types, classes, count, n, at, class);
-            return Walked { made, scope };
-        }
-        Made::Refused { number, place } => {
-            let made = Made::Refused { number, place };
-            return Walked { made, scope };
-        }
-    }
+    walks::times(types, classes, count, n, at, class)
 }
 
 // A source's answer, or else what 14 says of the variable: the source's own refusal comes first.

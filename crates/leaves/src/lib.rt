@@ -1,5 +1,5 @@
-// The typing walk of queries that have no parts: (), a text, a variable, child and dos. A scope comes by value and is handed back. The first `used` of
-// `defs` are the definitions.
+// The typing walk of queries that have no parts: (), a text, a variable, child and dos. Those that look a variable up take a scope by value and hand it
+// back. The first `used` of `defs` are the definitions.
 ghost use mathlib.Core.Path.{_≡_};
 ghost use mathlib.Core.List.{List};
 ghost use Prim.Native.Nat.{ℕ, _≤_};
@@ -17,20 +17,18 @@ pub struct Walked {
     pub scope: Scope,
 }
 
-// (): entry 0.
-pub fn nothing(count: usize, scope: Scope) -> Walked
-    ensures { λ r. ⌜ ((n : ℕ) (D : Defs) (ws cs : List ℕ) → Begins D ws cs count scope → Walks D ws ws cs cs count (Queries.nothing n) scope r) ⌝ }
+// (): entry 0, in every scope.
+pub fn nothing(count: usize) -> Made
+    ensures { λ r. ⌜ ((n : ℕ) (D : Defs) (ws cs : List ℕ) (s : Scope) → Begins D ws cs count s → Walks D ws ws cs cs count (Queries.nothing n) s (record { made = r; scope = s })) ⌝ }
 {
-    let made = Made::Entry { at: 0, count };
-    Walked { made, scope }
+    Made::Entry { at: 0, count }
 }
 
-// A text: entry 1.
-pub fn text(count: usize, scope: Scope) -> Walked
-    ensures { λ r. ⌜ ((n t : ℕ) (D : Defs) (ws cs : List ℕ) → Begins D ws cs count scope → Walks D ws ws cs cs count (Queries.text n t) scope r) ⌝ }
+// A text: entry 1, in every scope.
+pub fn text(count: usize) -> Made
+    ensures { λ r. ⌜ ((n t : ℕ) (D : Defs) (ws cs : List ℕ) (s : Scope) → Begins D ws cs count s → Walks D ws ws cs cs count (Queries.text n t) s (record { made = r; scope = s })) ⌝ }
 {
-    let made = Made::Entry { at: 1, count };
-    Walked { made, scope }
+    Made::Entry { at: 1, count }
 }
 
 // What was found in a scope as a step's answer.

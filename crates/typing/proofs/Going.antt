@@ -11,7 +11,7 @@ use Rattle.meaning.specs.Base.{Out, ok, refused, typeCapacity}
 use Rattle.meaning.specs.Types.{Table, Defs}
 use Rattle.meaning.specs.Records as Records
 use Rattle.meaning.specs.Records.{Node}
-use Rattle.meaning.specs.Queries.{queryAt}
+use Rattle.meaning.specs.Queries.{Query, queryAt}
 use Rattle.meaning.specs.Typing as Typing
 use Rattle.meaning.proofs.Codes.{query-labels}
 use Rattle.meaning.proofs.Nodes.{InQuery, everywhere}
@@ -30,10 +30,17 @@ use Rattle.joins.proofs.Growing.{walk-count, within-more}
 use Rattle.typing.specs.declared.Next.{Next}
 use Rattle.typing.specs.declared.Next.the-variants as Next
 use Rattle.typing.specs.declared.Step.{Step}
+use Rattle.typing.specs.declared.Ask.{Ask}
+use Rattle.typing.specs.declared.Entering.{Entering}
+use Rattle.typing.specs.declared.Entering.the-variants as Entering
+use Rattle.typing.specs.declared.Bind.{Bind}
+use Rattle.typing.specs.declared.Leaving.{Leaving}
+use Rattle.typing.specs.declared.Leaving.the-variants as Leaving
 use Rattle.typing.specs.Walking as Walking
-use Rattle.typing.specs.Walking.{onward, binder, named, inside, outside, Freed, size, cost, Here, Back, Goes, Turns, Typed}
-use Rattle.typing.proofs.Onward.{size-some}
+use Rattle.typing.specs.Walking.{onward, binder, named, inside, outside, Kept, Freed, size, cost, rose, variableOf, bodyOf, binding, Here, Framed, Goes, Enters, Turns, Leaves, Typed}
+use Rattle.typing.proofs.Onward.{size-some, enters-plain, enters-still}
 use Rattle.typing.proofs.Turning.{one-less, within-unbind}
+use Rattle.typing.proofs.Returning.{leaves-plain, leaves-binds, binds-turns}
 use Rattle.typing.proofs.Stack.{Frame, named-none, outside-inside, scopeOf, namesOf, resume, resume-refused, work, work-some, Stack, bottom, Top, top-of, stack-shows, stack-more, begun-work, begun-stack, kept-work, kept-stack, scope-wide}
 
 -- A WALK: the definitions, the query's nodes, the types and classes that it began with, of so many entries, the scope, the node to do, and how many words
@@ -105,8 +112,8 @@ module _ (walk : Walk) where
 
   abbrev pub Stands : List ℕ → List ℕ → List ℕ → List ℕ → Scope → Next → Type 0
   Stands us ds ms st s (Next.Down node n top) = Descends us ds ms st s node n top
-  Stands us ds ms st s (Next.Up (Made.Entry e n) top) = Ascends us ds ms st s e n top
-  Stands us ds ms st s (Next.Up (Made.Refused k place) top) = Stops us ds ms st k place
+  Stands us ds ms st s (Next.Up e n top) = Ascends us ds ms st s e n top
+  Stands us ds ms st s (Next.Stop k place) = Stops us ds ms st k place
 
   -- THE LOOP
   pub record Going (us ds ms st : List ℕ) (s : Scope) (next : Next) : Type 0 where
@@ -115,7 +122,12 @@ module _ (walk : Walk) where
   -- how much there is left to do
   abbrev pub left : List ℕ → Next → ℕ
   left st (Next.Down node n top) = 3 * size (queryAt code node) + work code (walk .scope) st top
-  left st (Next.Up made top) = work code (walk .scope) st top
+  left st (Next.Up e n top) = work code (walk .scope) st top
+  left st (Next.Stop k place) = 0
+
+  left-rose : (st : List ℕ) (o : Made) (top : ℕ) → left st (rose o top) ≤ work code (walk .scope) st top
+  left-rose st (Made.Entry e n) top = omega arith
+  left-rose st (Made.Refused k place) top = omega arith
 
   -- what a step makes
   pub record Stepped (us ds ms st : List ℕ) (r : Step) (before : ℕ) : Type 0 where
@@ -145,7 +157,7 @@ module _ (walk : Walk) where
 
     -- UP with whatever was made, where the frames leave the whole to do
     module _ {us ds ms st : List ℕ} {s : Scope} {top n : ℕ} {fs : List Frame} (held : Held us ds ms st) (k : Stacked st n top s fs) where
-      rising : (o : Made) → After D us ds o → ((e m : ℕ) → o ≡ Made.Entry e m → (n ≤ m) × Within s m) → ((g : Typing.Scope) → Shows (walk .scope) g → onwards fs g (answerOf o us) ≡ whole g) → Stands us ds ms st s (Next.Up o top)
+      rising : (o : Made) → After D us ds o → ((e m : ℕ) → o ≡ Made.Entry e m → (n ≤ m) × Within s m) → ((g : Typing.Scope) → Shows (walk .scope) g → onwards fs g (answerOf o us) ≡ whole g) → Stands us ds ms st s (rose o top)
       rising (Made.Entry e m) a more rest =
           let z = more e m refl in
           record { held = held; begins = record { ready = a .0; within = z .1 }; low = a .1; frames = fs; stacked = record { stack = stack-more code (walk .scope) (z .0) (k .stack); scoped = k .scoped }; rest = rest }
@@ -192,7 +204,7 @@ module _ (walk : Walk) where
                 ap (onwards (d .frames) g) (k .is (namesOf code (walk .scope) (d .frames) g) (shows g (d .stacked) h) .answer)
                 ∙ ap (λ (a : ℕ). onwards (d .frames) g (walked (typeCapacity a) D (queryAt code node) (namesOf code (walk .scope) (d .frames) g) (tableOf us n))) (d .held .long)
                 ∙ d .rest g h);
-            less = omega (arith, size-some (queryAt code node));
+            less = omega (arith, size-some (queryAt code node), left-rose st (w .made) top);
           })
       down-steps {ns = ns} l p q (Walking.first c z a b e j less law) =
           rw (j, a, b, e) (record {
@@ -207,6 +219,17 @@ module _ (walk : Walk) where
                 };
             less = omega (arith, begun-work code (walk .scope) st top node (down-room l));
           })
+
+      -- the same whatever the scope; and one that asks
+      module _ {tt' : List ℕ} {r : Entering} (l : 2048 ≤ walk .deep) (e : Enters (walk .code) (walk .nodes) n node st tt' top r) where
+        pub plain-down : {to : Next} → r ≡ Entering.Plain to → length tt' ≡ length st → Stepped us ds ms tt' (record { next = to; scope = s }) (left st (Next.Down node n top))
+        plain-down p q = down-steps {ns = ms} l refl q (enters-plain e p D us ds s (d .begins))
+
+        pub asks-room : {a : Ask} → r ≡ Entering.Asks a → 2 * top + 1 < length tt'
+        asks-room p = omega (arith, ap length (enters-still e p), down-room l)
+
+        pub asks-down : {a : Ask} {vs es ns uu : List ℕ} {x : Step} → r ≡ Entering.Asks a → length ns ≡ length ms → length uu ≡ length tt' → Goes D code us vs ds es n s node tt' uu top x → Stepped vs es ns uu x (left st (Next.Down node n top))
+        asks-down {vs = vs} {es} {ns} {uu} {x} p q z g = let y = enters-still e p in down-steps {ns = ns} l q (z ∙ ap length y) (subst (λ (t : List ℕ). Goes D code us vs ds es n s node t uu top x) y g)
 
     -- THE END
     pub up-done : {us ds ms st : List ℕ} {s : Scope} {e n : ℕ} {o : Made} → o ≡ Made.Entry e n → Ascends us ds ms st s e n 0 → Typed D (walk .types) us (walk .classes) ds (walk .count) (queryAt code (walk .start)) (walk .scope) o
@@ -236,14 +259,18 @@ module _ (walk : Walk) where
       pub up-room : 2048 ≤ walk .deep → 2 * i + 1 < length st
       up-room l = omega (arith, a .held .deep, top .sound .low, coded .few)
 
-      pub up-back : 8192 ≤ walk .marked → walk .used ≤ length (walk .defs) → 2048 ≤ walk .deep → Back us ds ms (walk .defs) (walk .used) (walk .code) (walk .nodes) n s st i e
-      up-back m l d =
+      pub up-framed : 2048 ≤ walk .deep → Framed ds (walk .code) (walk .nodes) st i e
+      up-framed d =
           record {
-            here = record { begins = a .begins; marked = omega (arith, a .held .marked); listed = l; coded = coded; low = omega (arith, top .sound .low, top .sound .node) };
-            low = a .low;
+            coded = coded;
+            low = omega (arith, top .sound .low, top .sound .node);
             room = up-room d;
-            kept = rw (top .sound .node, top .sound .keeps) (top .sound .few);
+            long = a .begins .ready .long;
+            few = omega (arith, a .low, a .begins .ready .lent .fits);
           }
+
+      up-kept : Kept n (queryAt code (getD st (2 * i) 0)) (getD st (2 * i + 1) 0)
+      up-kept = rw (top .sound .node, top .sound .keeps) (top .sound .few)
 
       -- the scope by the frame on top
       framed : s ≡ inside b (f .kept) (f .var) (scopeOf code (walk .scope) fs)
@@ -264,9 +291,9 @@ module _ (walk : Walk) where
 
       -- the node is done
       module _ {vs es ns tt' : List ℕ} {r : Step} (p : length ns ≡ length ms) where
-        done-steps : (o : Made) → tt' ≡ st → r ≡ record { next = Next.Up o i; scope = outside b (f .kept) s } → ((x m : ℕ) → o ≡ Made.Entry x m → n ≤ m)
+        done-steps : (o : Made) → tt' ≡ st → r ≡ record { next = rose o i; scope = outside b (f .kept) s } → ((x m : ℕ) → o ≡ Made.Entry x m → n ≤ m)
             → ((g : Typing.Scope) → Shows (outside b (f .kept) s) g → Left D us vs ds es o (onward (typeCapacity (length us)) D (queryAt code (f .node)) (f .kept) g (ok (tableOf us n, e))))
-            → Stepped vs es ns tt' r (left st (Next.Up (Made.Entry e n) (suc i)))
+            → Stepped vs es ns tt' r (left st (Next.Up e n (suc i)))
         done-steps o q j more is =
             let first = is (shown (outside b (f .kept) s)) (shows-shown (outside b (f .kept) s)) in
             let held : Held vs es ns st = record { long = first .long ∙ a .held .long; longs = first .longs ∙ a .held .longs; marked = p ∙ a .held .marked; deep = a .held .deep } in
@@ -276,7 +303,7 @@ module _ (walk : Walk) where
                   ap (onwards fs g) (is (namesOf code (walk .scope) fs g) (shows g k h) .answer)
                   ∙ ap (λ (l : ℕ). onwards fs g (onward (typeCapacity l) D (queryAt code (f .node)) (f .kept) (namesOf code (walk .scope) fs g) (ok (tableOf us n, e)))) (a .held .long)
                   ∙ framed-rest g h);
-              less = work-some code (walk .scope) st i;
+              less = omega (arith, work-some code (walk .scope) st i, left-rose st o i);
             })
 
       -- its second part comes
@@ -311,7 +338,7 @@ module _ (walk : Walk) where
             let y : cost (queryAt code (getD st (2 * i) 0)) (getD st (2 * i + 1) 0) ≡ cost (queryAt code (f .node)) 0 = ap (λ (j : ℕ). cost (queryAt code j) (getD st (2 * i + 1) 0)) (top .sound .node) ∙ ap (cost (queryAt code (f .node))) (top .sound .keeps ∙ none-kept) in
             omega (arith, q, z, y)
 
-      turned : {vs es ns tt' : List ℕ} {r : Step} → 2048 ≤ walk .deep → length ns ≡ length ms → length tt' ≡ length st → Turns D code us vs ds es n s (f .node) (f .kept) e st tt' i r → Stepped vs es ns tt' r (left st (Next.Up (Made.Entry e n) (suc i)))
+      turned : {vs es ns tt' : List ℕ} {r : Step} → 2048 ≤ walk .deep → length ns ≡ length ms → length tt' ≡ length st → Turns D code us vs ds es n s (f .node) (f .kept) e st tt' i r → Stepped vs es ns tt' r (left st (Next.Up e n (suc i)))
       turned d p q (Walking.done o k j more is) = done-steps p o k j more is
       turned {vs = vs} d p q (Walking.second c x m y z l k j begins more long longs low freed less is) =
           rw (j, k) (record {
@@ -327,25 +354,43 @@ module _ (walk : Walk) where
             less = second-less z c x (up-room d) less;
           })
 
-      pub up-steps : {vs es ns tt' : List ℕ} {r : Step} → 2048 ≤ walk .deep → length ns ≡ length ms → length tt' ≡ length st → Turns D code us vs ds es n s (getD st (2 * i) 0) (getD st (2 * i + 1) 0) e st tt' i r → Stepped vs es ns tt' r (left st (Next.Up (Made.Entry e n) (suc i)))
+      pub up-steps : {vs es ns tt' : List ℕ} {r : Step} → 2048 ≤ walk .deep → length ns ≡ length ms → length tt' ≡ length st → Turns D code us vs ds es n s (getD st (2 * i) 0) (getD st (2 * i + 1) 0) e st tt' i r → Stepped vs es ns tt' r (left st (Next.Up e n (suc i)))
       up-steps {vs} {es} {ns} {tt'} {r} d p q t = turned d p q (subst (λ (k : ℕ). Turns D code us vs ds es n s (f .node) k e st tt' i r) (top .sound .keeps) (subst (λ (j : ℕ). Turns D code us vs ds es n s j (getD st (2 * i + 1) 0) e st tt' i r) (top .sound .node) t))
+
+      -- the same whatever the scope; and one that binds
+      module _ {vs es tt' : List ℕ} {r : Leaving} (d : 2048 ≤ walk .deep) (l : Leaves code us vs ds es n e st tt' i r) where
+        pub plain-up : {to : Next} → r ≡ Leaving.Plain to → length tt' ≡ length st → Stepped vs es ms tt' (record { next = to; scope = s }) (left st (Next.Up e n (suc i)))
+        plain-up p q = up-steps {ns = ms} d refl q (leaves-plain l p D s (a .begins) (a .low) up-kept)
+
+        pub binds-begins : {b : Bind} → r ≡ Leaving.Binds b → Begins D vs es n s
+        binds-begins p = let x = leaves-binds l p in rw (x .types, x .classes) (a .begins)
+
+        pub binds-room : {b : Bind} → r ≡ Leaving.Binds b → 2 * i + 1 < length tt'
+        binds-room p = omega (arith, ap length (leaves-binds l p .stack), up-room d)
+
+        pub binds-few : {b : Bind} → r ≡ Leaving.Binds b → variableOf b ≤ 63
+        binds-few p = leaves-binds l p .few
+
+        pub binds-up : {b : Bind} {xs ys ns uu : List ℕ} {x : Step} → r ≡ Leaving.Binds b → length ns ≡ length ms → length uu ≡ length tt'
+            → ((C : List Node) (p : Query) → queryAt C (getD tt' (2 * i) 0) ≡ binding (getD tt' (2 * i) 0) b p (queryAt C (bodyOf b)) → bodyOf b < getD tt' (2 * i) 0 → Turns D C vs xs es ys n s (getD tt' (2 * i) 0) (getD tt' (2 * i + 1) 0) e tt' uu i x)
+            → Stepped xs ys ns uu x (left st (Next.Up e n (suc i)))
+        binds-up {b} {xs} {ys} {ns} {uu} {x} p q z h =
+            let y = leaves-binds l p in
+            up-steps {ns = ns} d q (z ∙ ap length (y .stack)) (binds-turns y h)
 
   -- WHERE IT STANDS, as the loop tells
   module _ {us ds ms st : List ℕ} {s : Scope} {next : Next} (g : Going us ds ms st s next) where
     pub at-node : {node n top : ℕ} → next ≡ Next.Down node n top → Descends us ds ms st s node n top
     at-node p = subst (Stands us ds ms st s) p (g .is)
 
-    pub at-stop : {o : Made} {k place top : ℕ} → next ≡ Next.Up o top → o ≡ Made.Refused k place → Stops us ds ms st k place
-    at-stop {top = top} p q = subst (λ (o : Made). Stands us ds ms st s (Next.Up o top)) q (subst (Stands us ds ms st s) p (g .is))
+    pub at-stop : {k place : ℕ} → next ≡ Next.Stop k place → Stops us ds ms st k place
+    at-stop p = subst (Stands us ds ms st s) p (g .is)
 
-    risen : {o : Made} {e n top : ℕ} → next ≡ Next.Up o top → o ≡ Made.Entry e n → Ascends us ds ms st s e n top
-    risen {top = top} p q = subst (λ (o : Made). Stands us ds ms st s (Next.Up o top)) q (subst (Stands us ds ms st s) p (g .is))
+    pub at-end : {e n top : ℕ} → next ≡ Next.Up e n top → top ≡ 0 → Ascends us ds ms st s e n 0
+    at-end p z = subst (Ascends us ds ms st s _ _) z (subst (Stands us ds ms st s) p (g .is))
 
-    pub at-end : {o : Made} {e n top : ℕ} → next ≡ Next.Up o top → o ≡ Made.Entry e n → top ≡ 0 → Ascends us ds ms st s e n 0
-    at-end p q z = subst (Ascends us ds ms st s _ _) z (risen p q)
-
-    pub at-frame : {o : Made} {e n top : ℕ} → next ≡ Next.Up o top → o ≡ Made.Entry e n → top ≢ 0 → Ascends us ds ms st s e n (suc (top - 1))
-    at-frame p q z = subst (Ascends us ds ms st s _ _) (one-less z) (risen p q)
+    pub at-frame : {e n top : ℕ} → next ≡ Next.Up e n top → top ≢ 0 → Ascends us ds ms st s e n (suc (top - 1))
+    at-frame p z = subst (Ascends us ds ms st s _ _) (one-less z) (subst (Stands us ds ms st s) p (g .is))
 
   pub stepped-going : {us ds ms st : List ℕ} {r : Step} {m : ℕ} → Stepped us ds ms st r m → Going us ds ms st (r .scope) (r .next)
   stepped-going x = record { is = x .is }
@@ -353,5 +398,5 @@ module _ (walk : Walk) where
   pub stepped-less : {us ds ms st : List ℕ} {r : Step} (st' : List ℕ) {old : Next} {node n top : ℕ} → old ≡ Next.Down node n top → Stepped us ds ms st r (left st' (Next.Down node n top)) → left st (r .next) < left st' old
   stepped-less st' p x = rw p (x .less)
 
-  pub framed-less : {us ds ms st : List ℕ} {r : Step} (st' : List ℕ) {old : Next} {o : Made} {top : ℕ} → old ≡ Next.Up o top → top ≢ 0 → Stepped us ds ms st r (left st' (Next.Up o (suc (top - 1)))) → left st (r .next) < left st' old
+  pub framed-less : {us ds ms st : List ℕ} {r : Step} (st' : List ℕ) {old : Next} {e n top : ℕ} → old ≡ Next.Up e n top → top ≢ 0 → Stepped us ds ms st r (left st' (Next.Up e n (suc (top - 1)))) → left st (r .next) < left st' old
   framed-less st' p z x = rw (p, one-less z) (x .less)

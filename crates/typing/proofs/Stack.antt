@@ -15,7 +15,7 @@ use Rattle.meaning.specs.Queries as Queries
 use Rattle.meaning.specs.Queries.{Query, queryAt}
 use Rattle.meaning.specs.Typing as Typing
 use Rattle.scope.specs.declared.Scope.{Scope}
-use Rattle.scope.specs.Shows.{Shows, slotOf, bound, varOf}
+use Rattle.scope.specs.Shows.{Shows, slotOf, varOf}
 use Rattle.scope.proofs.Slots.{shows-bind, unbind-bind}
 use Rattle.typing.specs.Walking.{onward, binder, named, coded, inside, outside, Kept, Freed, size, halfCost, cost, begun}
 

@@ -44,10 +44,15 @@ use Rattle.leaves.specs.declared.Walked.{Walked}
 use Rattle.leaves.proofs.Steps.{left-as}
 use Rattle.joins.specs.Joins.{Adds, Repeats, Frees, loop}
 use Rattle.joins.proofs.Growing.{within-more, within-bind}
+use Rattle.typing.specs.declared.Next.{Next}
 use Rattle.typing.specs.declared.Next.the-variants as Next
 use Rattle.typing.specs.declared.Step.{Step}
 use Rattle.typing.specs.Walking as Walking
-use Rattle.typing.specs.Walking.{onward, binder, named, inside, outside, Kept, Free, Freed, size, cost, stepped, Turns}
+use Rattle.typing.specs.Walking.{onward, binder, named, inside, outside, Kept, Free, Freed, size, cost, rose, stepped, Turns}
+
+-- where the walk stands, with a scope
+pub there : (s : Scope) {x y : Next} → x ≡ y → _≡_ {A = Step} (record { next = x; scope = s }) (record { next = y; scope = s })
+there s p = λ i. record { next = p i; scope = s }
 
 -- 14 does not stop a variable whose word is 0
 pub free-ok : {s : Scope} {v : ℕ} (n : ℕ) (g : Typing.Scope) → Free s v → Shows s g → unbound n g v ≡ ok tt
@@ -72,7 +77,7 @@ module _ (D : Defs) (ws cs : List ℕ) (count : ℕ) (s : Scope) (k at i : ℕ) 
   T = tableOf ws count
 
   pub record Done (us ds : List ℕ) (x : Query) (o : Made) (r : Step) : Type 0 where
-    pub step : r ≡ record { next = Next.Up o i; scope = outside (binder x) k s }
+    pub step : r ≡ record { next = rose o i; scope = outside (binder x) k s }
     pub more : (e m : ℕ) → o ≡ Made.Entry e m → count ≤ m
     pub is : (g : Typing.Scope) → Shows (outside (binder x) k s) g → Left D ws us cs ds o (onward room D x k g (ok (T, at)))
 
@@ -120,52 +125,42 @@ module _ (D : Defs) (ws cs : List ℕ) (count : ℕ) (s : Scope) (k at i : ℕ) 
     again q e m p = let z : count ≡ m = cc in omega arith
 
     -- a query that has nothing left to do
-    pub still : {x : Query} {r : Step} → binder x ≡ none → ((g : Typing.Scope) (o : Out (Table × ℕ)) → onward room D x k g o ≡ o) → r ≡ stepped (part s) i → Done ws cs x (Made.Entry at count) r
-    still {x} b f e =
+    pub still : {x : Query} → binder x ≡ none → ((g : Typing.Scope) (o : Out (Table × ℕ)) → onward room D x k g o ≡ o) → Done ws cs x (Made.Entry at count) (record { next = Next.Up at count i; scope = s })
+    still {x} b f =
         record {
-          step = rw b e;
+          step = rw b refl;
           more = again refl;
           is = λ g h. left-as here (sym (f g (ok (T, at))));
         }
 
     module _ (n : ℕ) where
       -- ELEMENT
-      pub element-done : {us ds : List ℕ} {w : Walked} {r : Step} (l : ℕ) (p : Query) → 1 ≤ l → l ≤ 65534 → Adds ws us cs ds n 3 l (part s) w → r ≡ stepped w i → Done us ds (Queries.element n l p) (w .made) r
+      pub element-done : {us ds : List ℕ} {o : Made} {to : Next} (l : ℕ) (p : Query) → 1 ≤ l → l ≤ 65534 → Adds ws us cs ds count n 3 l at o → to ≡ rose o i → Done us ds (Queries.element n l p) o (record { next = to; scope = s })
       unfolding onward binder
-      element-done {w = w} l p j z a e =
-          let g = a .is D (Types.element l) ws cs (ok (T, at)) (λ x m q. new-element j z (left-ready q here .1)) here in
-          record {
-            step = e ∙ ap (λ (t : Scope). record { next = Next.Up (w .made) i; scope = t }) (a .kept);
-            more = grown (appends (new-element j z low)) g;
-            is = λ _ _. g;
-          }
+      element-done l p j z a e =
+          let new : New count 3 l at (Types.element l at) = new-element j z low in
+          let g = a .is D (Types.element l at) new (B .ready) in
+          record { step = there s e; more = grown (appends new) g; is = λ _ _. g }
 
       -- PAIR: its second part, and then the pair
-      pub pair-second : {r : Step} (p q : Query) (c : ℕ) → k ≡ 0 → r ≡ record { next = Next.Down c count (suc i); scope = s } → Second ws cs (Queries.pair n p q) q c at count (Records.tree 0) r
+      pub pair-second : {to : Next} (p q : Query) (c : ℕ) → k ≡ 0 → to ≡ Next.Down c count (suc i) → Second ws cs (Queries.pair n p q) q c at count (Records.tree 0) (record { next = to; scope = s })
       unfolding onward binder cost
       pair-second p q c z e =
-          record { step = e; begins = B; more = omega arith; long = refl; longs = refl; low = omega (arith, low); freed = tt; less = omega arith; is = λ g h. refl }
+          record { step = there s e; begins = B; more = omega arith; long = refl; longs = refl; low = omega (arith, low); freed = tt; less = omega arith; is = λ g h. refl }
 
-      pub pair-done : {us ds : List ℕ} {w : Walked} {r : Step} (p q : Query) (x : ℕ) → k ≡ suc x → k ≤ count → Adds ws us cs ds n 4 x (part s) w → r ≡ stepped w i → Done us ds (Queries.pair n p q) (w .made) r
+      pub pair-done : {us ds : List ℕ} {o : Made} {to : Next} (p q : Query) (x : ℕ) → k ≡ suc x → k ≤ count → Adds ws us cs ds count n 4 x at o → to ≡ rose o i → Done us ds (Queries.pair n p q) o (record { next = to; scope = s })
       unfolding onward binder
-      pair-done {w = w} p q x z l a e =
-          let g = a .is D (Types.pair x) ws cs (ok (T, at)) (λ y m q. let v : count ≡ m = cc in new-pair (omega (arith, l, z)) (left-ready q here .1)) here in
-          record {
-            step = e ∙ ap (λ (t : Scope). record { next = Next.Up (w .made) i; scope = t }) (a .kept);
-            more = grown (appends (new-pair (omega (arith, l, z)) low)) g;
-            is = λ h _. rw z g;
-          }
+      pair-done p q x z l a e =
+          let new : New count 4 x at (Types.pair x at) = new-pair (omega (arith, l, z)) low in
+          let g = a .is D (Types.pair x at) new (B .ready) in
+          record { step = there s e; more = grown (appends new) g; is = λ h _. rw z g }
 
       -- WHEN
-      pub when-done : {us ds : List ℕ} {w : Walked} {r : Step} (p : Cond) (q : Query) → Repeats ws us cs ds n 2 (part s) w → r ≡ stepped w i → Done us ds (Queries.when n p q) (w .made) r
+      pub when-done : {us ds : List ℕ} {o : Made} {to : Next} (p : Cond) (q : Query) → Repeats ws us cs ds count n 2 at o → to ≡ rose o i → Done us ds (Queries.when n p q) o (record { next = to; scope = s })
       unfolding onward binder classOf times allowing
-      when-done {w = w} p q a e =
-          let g = a .is D ws cs (ok (T, at)) here in
-          record {
-            step = e ∙ ap (λ (t : Scope). record { next = Next.Up (w .made) i; scope = t }) (a .kept);
-            more = grown (repeats 2) g;
-            is = λ _ _. g;
-          }
+      when-done p q a e =
+          let g = a .is D (B .ready) low in
+          record { step = there s e; more = grown (repeats 2) g; is = λ _ _. g }
 
       -- LET AND FOR: 14 stops them
       module _ (v : ℕ) (x : Query) (b : binder x ≡ some v) (F : Typing.Scope → ℕ → Rule ℕ)
@@ -173,7 +168,7 @@ module _ (D : Defs) (ws cs : List ℕ) (count : ℕ) (s : Scope) (k at i : ℕ) 
         bound-stops : {source : Walked} {r : Step} {a c : ℕ} → k ≡ 0 → Frees n v (part s) source → source .made ≡ Made.Refused a c → r ≡ stepped source i → Done ws cs x (source .made) r
         bound-stops {source} z f y e =
             record {
-              step = rw (b, z) (e ∙ ap (λ (t : Scope). record { next = Next.Up (source .made) i; scope = t }) (f .kept));
+              step = rw (b, z) (e ∙ ap (λ (t : Scope). record { next = rose (source .made) i; scope = t }) (f .kept));
               more = λ l m j. again refl l m (f .entry l m j .0);
               is = λ g h. rw z (left-as (left-stop (F g) y (f .is g (rw (b, z) at h) D ws ws cs cs (ok (T, at)) here)) (sym (law g (ok (T, at)))));
             }
@@ -227,7 +222,7 @@ module _ (D : Defs) (ws cs : List ℕ) (count : ℕ) (s : Scope) (k at i : ℕ) 
 
         -- FOR: prime, its body, and U.q after it
         module _ {us ds : List ℕ} {o : Made} (f : Free s v) (w : Left D ws us cs ds o (prime room n (shape D T at) T)) where
-          pub prime-stops : {r : Step} {a c : ℕ} → k ≡ 0 → o ≡ Made.Refused a c → r ≡ record { next = Next.Up o i; scope = s } → Done us ds (Queries.for n v p q) o r
+          pub prime-stops : {r : Step} {a c : ℕ} → k ≡ 0 → o ≡ Made.Refused a c → r ≡ record { next = rose o i; scope = s } → Done us ds (Queries.for n v p q) o r
           unfolding binder
           prime-stops z y e =
               record {
@@ -256,12 +251,12 @@ module _ (D : Defs) (ws cs : List ℕ) (count : ℕ) (s : Scope) (k at i : ℕ) 
                     ∙ ap (λ (b : Class). after (walked room D q ((v, Records.tree e) ∷ g) (tableOf us m)) (λ u. times room n u b)) (sym (of-code (quant (shape D T at)) z));
               }
 
-        pub for-done : {us ds : List ℕ} {w : Walked} {r : Step} {j : ℕ} {t : Scope} (c : ℕ) → k ≡ suc c → j ≡ v → t ≡ bound s j 0 → Repeats ws us cs ds n c (part t) w → r ≡ stepped w i → Done us ds (Queries.for n v p q) (w .made) r
+        pub for-done : {us ds : List ℕ} {o : Made} {to : Next} {j : ℕ} {t : Scope} (c : ℕ) → k ≡ suc c → j ≡ v → t ≡ bound s j 0 → Repeats ws us cs ds count n c at o → to ≡ rose o i → Done us ds (Queries.for n v p q) o (record { next = to; scope = t })
         unfolding onward binder
-        for-done {w = w} c z j b a e =
-            let g = a .is D ws cs (ok (T, at)) here in
+        for-done {o = o} {t = t} c z j b a e =
+            let g = a .is D (B .ready) low in
             record {
-              step = rw z (e ∙ ap (λ (t : Scope). record { next = Next.Up (w .made) i; scope = t }) (a .kept ∙ b ∙ ap (λ (l : ℕ). bound s l 0) j));
+              step = rw z (there t e ∙ ap (λ (t : Scope). record { next = rose o i; scope = t }) (b ∙ ap (λ (l : ℕ). bound s l 0) j));
               more = grown (repeats c) g;
               is = λ _ _. rw z g;
             }
@@ -307,8 +302,8 @@ pub class-few : {D : Defs} {ws cs : List ℕ} {count at : ℕ} {s : Scope} → B
 class-few {D} {ws} {count = count} {at} B low = omega (arith, B .ready .filled .right at (rw table-length low), code-few (quant (shape D (tableOf ws count) at)))
 
 -- down at a node under another name
-pub went : (count : ℕ) (s : Scope) {x q t u : ℕ} → x ≡ q → t ≡ u → _≡_ {A = Step} (record { next = Next.Down x count t; scope = s }) (record { next = Next.Down q count u; scope = s })
-went count s p k = λ i. record { next = Next.Down (p i) count (k i); scope = s }
+pub went : (count : ℕ) {x q t u : ℕ} → x ≡ q → t ≡ u → Next.Down x count t ≡ Next.Down q count u
+went count p k = λ i. Next.Down (p i) count (k i)
 
 pub one-less : {n : ℕ} → n ≢ 0 → n ≡ suc (n - 1)
 one-less h = omega arith

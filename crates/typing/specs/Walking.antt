@@ -16,22 +16,32 @@ use Rattle.meaning.specs.Queries.{Query, queryAt, condAt}
 use Rattle.meaning.specs.Rules.{after, fromOut, append, times}
 use Rattle.meaning.specs.Typing as Typing
 use Rattle.meaning.specs.Typing.{unbound, typeCond}
-use Rattle.words.specs.Tables.{tableOf, codeOf}
+use Rattle.words.specs.Tables.{tableOf, codeOf, nodeIn}
 use Rattle.uses.specs.Counts.{Coded}
 use Rattle.classes.specs.Classes.{classOf}
 use Rattle.scope.specs.declared.Scope.{Scope}
 use Rattle.scope.specs.declared.Var.{Var}
 use Rattle.scope.specs.declared.Var.the-variants as Var
 use Rattle.scope.specs.Shows.{Shows, slotOf, bound}
-use Rattle.grow.specs.Grow.{Ready, Left}
+use Rattle.grow.specs.Grow.{Left}
 use Rattle.grow.specs.declared.Made.{Made}
 use Rattle.grow.specs.declared.Made.the-variants as Made
-use Rattle.leaves.specs.Walk.{Within, Begins, walked, Walks}
+use Rattle.leaves.specs.Walk.{Begins, walked, Walks}
 use Rattle.leaves.specs.declared.Walked.{Walked}
+use Rattle.queries.specs.Says.{Says}
+use Rattle.queries.specs.declared.Query as Nodes
 use Rattle.joins.specs.Joins.{loop}
 use Rattle.typing.specs.declared.Next.{Next}
 use Rattle.typing.specs.declared.Next.the-variants as Next
 use Rattle.typing.specs.declared.Step.{Step}
+use Rattle.typing.specs.declared.Ask.{Ask}
+use Rattle.typing.specs.declared.Ask.the-variants as Ask
+use Rattle.typing.specs.declared.Entering.{Entering}
+use Rattle.typing.specs.declared.Entering.the-variants as Entering
+use Rattle.typing.specs.declared.Bind.{Bind}
+use Rattle.typing.specs.declared.Bind.the-variants as Bind
+use Rattle.typing.specs.declared.Leaving.{Leaving}
+use Rattle.typing.specs.declared.Leaving.the-variants as Leaving
 
 -- WHAT IS LEFT OF A QUERY in a scope, when a part of it has answered o. It keeps 0 while its first part is done. While its second part is done it keeps
 -- one more than a number: a pair its first part's entry, a for its source's class.
@@ -134,9 +144,13 @@ cost (Queries.for n v p q) k = halfCost (size q) k
 cost (Queries.let-in n v p q) k = halfCost (size q) k
 cost (Queries.when n p q) k = 1
 
--- STEPS. Up with what a node's walk left; and the stack with a frame for node n
+-- STEPS. Up with a node's answer, or the end with its refusal; with what its walk left; and the stack with a frame for node n
+abbrev pub rose : Made → ℕ → Next
+rose (Made.Entry e m) top = Next.Up e m top
+rose (Made.Refused k place) top = Next.Stop k place
+
 abbrev pub stepped : Walked → ℕ → Step
-stepped w top = record { next = Next.Up (w .made) top; scope = w .scope }
+stepped w top = record { next = rose (w .made) top; scope = w .scope }
 
 abbrev pub begun : List ℕ → ℕ → ℕ → List ℕ
 begun st top n = set (set st (2 * top) n) (2 * top + 1) 0
@@ -149,12 +163,33 @@ pub record Here (types classes marks defs : List ℕ) (used : ℕ) (code : List 
   pub coded : Coded code nodes
   pub low : n < nodes
 
--- and of a frame, whose part has answered `at`
-pub record Back (types classes marks defs : List ℕ) (used : ℕ) (code : List ℕ) (nodes count : ℕ) (s : Scope) (st : List ℕ) (i at : ℕ) : Type 0 where
-  pub here : Here types classes marks defs used code nodes count (getD st (2 * i) 0) s
-  pub low : at < count
+-- and what a frame is given, whose part has answered `at`, whatever the scope
+pub record Framed (classes code : List ℕ) (nodes : ℕ) (st : List ℕ) (i at : ℕ) : Type 0 where
+  pub coded : Coded code nodes
+  pub low : getD st (2 * i) 0 < nodes
   pub room : 2 * i + 1 < length st
-  pub kept : Kept count (queryAt (codeOf code nodes) (getD st (2 * i) 0)) (getD st (2 * i + 1) 0)
+  pub long : 4096 ≤ length classes
+  pub few : at < 4096
+
+-- the query that looks variables up, as its node gives it
+abbrev pub asking : Ask → Nodes.Query
+asking (Ask.Variable v) = Nodes.the-variants.Variable v
+asking (Ask.Child v w) = Nodes.the-variants.Child v w
+asking (Ask.Dos v w) = Nodes.the-variants.Dos v w
+asking (Ask.When p q) = Nodes.the-variants.When p q
+
+-- the query that binds a variable: which one, the node of its body, and the query at node n with this source and this body
+abbrev pub variableOf : Bind → ℕ
+variableOf (Bind.For v q) = v
+variableOf (Bind.Let v q) = v
+
+abbrev pub bodyOf : Bind → ℕ
+bodyOf (Bind.For v q) = q
+bodyOf (Bind.Let v q) = q
+
+abbrev pub binding : ℕ → Bind → Query → Query → Query
+binding n (Bind.For v q) x y = Queries.for n v x y
+binding n (Bind.Let v q) x y = Queries.let-in n v x y
 
 -- A STEP DOWN at node n, over `top` frames: the node is done, or it is begun and a part of it comes first
 pub data Goes (D : Defs) (code : List Node) (ws us cs ds : List ℕ) (count : ℕ) (s : Scope) (n : ℕ) (st st' : List ℕ) (top : ℕ) (r : Step) : Type 0 where
@@ -164,15 +199,20 @@ pub data Goes (D : Defs) (code : List Node) (ws us cs ds : List ℕ) (count : �
       → ((room : ℕ) (g : Typing.Scope) (t : Table) → Shows s g → walked room D (queryAt code n) g t ≡ onward room D (queryAt code n) 0 g (walked room D (queryAt code q) g t))
       → Goes D code ws us cs ds count s n st st' top r
 
+-- as far as it goes whatever the scope: it is such a step in every scope, or nothing is done yet and the node is one that asks
+pub data Enters (code : List ℕ) (nodes count n : ℕ) (st st' : List ℕ) (top : ℕ) : Entering → Type 0 where
+  plain : {to : Next} → ((D : Defs) (ws cs : List ℕ) (s : Scope) → Begins D ws cs count s → Goes D (codeOf code nodes) ws ws cs cs count s n st st' top (record { next = to; scope = s })) → Enters code nodes count n st st' top (Entering.Plain to)
+  asks : {a : Ask} → st' ≡ st → Says n (nodeIn code n) (asking a) → Enters code nodes count n st st' top (Entering.Asks a)
+
 -- of a when: its condition is p and its part is q
 pub data Guards (code : List Node) (p : ℕ) (s : Scope) (n q count : ℕ) (st st' : List ℕ) (top : ℕ) (r : Step) : Type 0 where
-  stops : (k place : ℕ) → st' ≡ st → r ≡ record { next = Next.Up (Made.Refused k place) top; scope = s } → ((g : Typing.Scope) → Shows s g → typeCond (condAt code p) g ≡ refused k place) → Guards code p s n q count st st' top r
+  stops : (k place : ℕ) → st' ≡ st → r ≡ record { next = Next.Stop k place; scope = s } → ((g : Typing.Scope) → Shows s g → typeCond (condAt code p) g ≡ refused k place) → Guards code p s n q count st st' top r
   passes : st' ≡ begun st top n → r ≡ record { next = Next.Down q count (suc top); scope = s } → ((g : Typing.Scope) → Shows s g → typeCond (condAt code p) g ≡ ok tt) → Guards code p s n q count st st' top r
 
 -- A STEP UP to node n, the frame over i others, which keeps k and whose part has answered `at`: the node is done, or its second part comes, with
 -- variable y
 pub data Turns (D : Defs) (code : List Node) (ws us cs ds : List ℕ) (count : ℕ) (s : Scope) (n k at : ℕ) (st st' : List ℕ) (i : ℕ) (r : Step) : Type 0 where
-  done : (made : Made) → st' ≡ st → r ≡ record { next = Next.Up made i; scope = outside (binder (queryAt code n)) k s } → ((e m : ℕ) → made ≡ Made.Entry e m → count ≤ m)
+  done : (made : Made) → st' ≡ st → r ≡ record { next = rose made i; scope = outside (binder (queryAt code n)) k s } → ((e m : ℕ) → made ≡ Made.Entry e m → count ≤ m)
       → ((g : Typing.Scope) → Shows (outside (binder (queryAt code n)) k s) g → Left D ws us cs ds made (onward (typeCapacity (length ws)) D (queryAt code n) k g (ok (tableOf ws count, at))))
       → Turns D code ws us cs ds count s n k at st st' i r
   second : (q x m : ℕ) (y : Records.Var) → k ≡ 0 → q < n → st' ≡ set st (2 * i + 1) (suc x) → r ≡ record { next = Next.Down q m (suc i); scope = inside (binder (queryAt code n)) (suc x) y s }
@@ -180,6 +220,14 @@ pub data Turns (D : Defs) (code : List Node) (ws us cs ds : List ℕ) (count : �
       → cost (queryAt code n) (suc x) + 3 * size (queryAt code q) < cost (queryAt code n) 0
       → ((g : Typing.Scope) → Shows s g → onward (typeCapacity (length ws)) D (queryAt code n) 0 g (ok (tableOf ws count, at)) ≡ onward (typeCapacity (length ws)) D (queryAt code n) (suc x) g (walked (typeCapacity (length ws)) D (queryAt code q) (named (binder (queryAt code n)) (suc x) y ++ g) (tableOf us m)))
       → Turns D code ws us cs ds count s n k at st st' i r
+
+-- as far as it goes whatever the scope: it is such a step in every scope, or nothing is done yet and the node is one that binds
+pub data Leaves (code : List Node) (ws us cs ds : List ℕ) (count at : ℕ) (st st' : List ℕ) (i : ℕ) : Leaving → Type 0 where
+  plain : {to : Next}
+      → ((D : Defs) (s : Scope) → Begins D ws cs count s → at < count → Kept count (queryAt code (getD st (2 * i) 0)) (getD st (2 * i + 1) 0) → Turns D code ws us cs ds count s (getD st (2 * i) 0) (getD st (2 * i + 1) 0) at st st' i (record { next = to; scope = s }))
+      → Leaves code ws us cs ds count at st st' i (Leaving.Plain to)
+  binds : {b : Bind} (p : Query) → us ≡ ws → ds ≡ cs → st' ≡ st → queryAt code (getD st (2 * i) 0) ≡ binding (getD st (2 * i) 0) b p (queryAt code (bodyOf b)) → bodyOf b < getD st (2 * i) 0 → variableOf b ≤ 63
+      → Leaves code ws us cs ds count at st st' i (Leaving.Binds b)
 
 -- WHAT THE WALK LEAVES: what the query's walk leaves in every scope that this one shows
 pub record Typed (D : Defs) (ws us cs ds : List ℕ) (count : ℕ) (q : Query) (s : Scope) (made : Made) : Type 0 where

@@ -4,7 +4,7 @@ use Rattle.leaves.proofs.nothing.Statement.{statement}
 use Rattle.leaves.proofs.nothing.Tie as tie
 
 returns : tie.Need-returns
-returns c = λ n D ws cs B. nothing-walks n B
+returns c = λ n D ws cs s B. nothing-walks n B
 
 pub nothing-spec : {M : Type 1} → statement M
 nothing-spec = tie.close (tie.spec returns)

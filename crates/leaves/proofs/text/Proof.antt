@@ -4,7 +4,7 @@ use Rattle.leaves.proofs.text.Statement.{statement}
 use Rattle.leaves.proofs.text.Tie as tie
 
 returns : tie.Need-returns
-returns c = λ n t D ws cs B. text-walks n B t
+returns c = λ n t D ws cs s B. text-walks n B t
 
 pub text-spec : {M : Type 1} → statement M
 text-spec = tie.close (tie.spec returns)

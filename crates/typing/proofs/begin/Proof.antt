@@ -39,7 +39,7 @@ same-length c = search needs
 
 returns : tie.Need-returns
 returns c =
-    (went _ _ (c .wide .ensures) (omega arith), refl)
+    (went _ (c .wide .ensures) (omega arith), refl)
 
 pub begin-spec : {M : Type 1} → statement M
 begin-spec = tie.close (tie.spec mul-i cast-stack mul-stack slice-write-stack add-stack mul-stack-2 slice-write-stack-2 wide-requires add-more same-length returns)

@@ -19,8 +19,8 @@ sub-repeat c = search needs
 repeat-requires : tie.Need-repeat-requires
 repeat-requires c κs = search needs
 
-rise-requires : tie.Need-rise-requires
-rise-requires c κs = search needs
+raise-requires : tie.Need-raise-requires
+raise-requires c κs = search needs
 
 same-length : tie.Need-same-length
 same-length c = search needs
@@ -30,7 +30,7 @@ same-length-2 c = search needs
 
 returns : tie.Need-returns
 returns c =
-    λ C p a l. turn-done _ _ _ _ _ _ _ _ _ a (for-done _ _ _ _ _ _ _ _ ((c .before .before .before .before .before .before .before .before .before .before .before .before .before .before .before .before) .pre .0) ((c .before .before .before .before .before .before .before .before .before .before .before .before .before .before .before .before) .pre .1 .1 .1 .0) _ _ p _ _ (one-less ((c .before .before .before .before .before .before .before .before .before .before) .if1 .taken)) ((c .before .before .before .before .before .before .before .before .before) .wide .ensures) ((c .before .before .before .before .before .before .before .before) .unbind .ensures) ((c .before .before .before .before .before) .repeat .ensures) (c .rise .ensures)) refl
+    λ C p a l. turn-done _ _ _ _ _ _ _ _ _ a (for-done _ _ _ _ _ _ _ _ ((c .before .before .before .before .before .before .before .before .before .before .before .before .before .before .before .before) .pre .0) ((c .before .before .before .before .before .before .before .before .before .before .before .before .before .before .before .before) .pre .1 .1 .1 .0) _ _ p _ _ (one-less ((c .before .before .before .before .before .before .before .before .before .before) .if1 .taken)) ((c .before .before .before .before .before .before .before .before .before) .wide .ensures) ((c .before .before .before .before .before .before .before .before) .unbind .ensures) ((c .before .before .before .before .before) .repeat .ensures) (c .raise .ensures)) refl
 
 free-requires : tie.Need-free-requires
 free-requires c κs = search needs
@@ -41,12 +41,12 @@ enum-known-made c = search needs
 enum-told : tie.Need-enum-told
 enum-told c = search needs
 
-rise-requires-2 : tie.Need-rise-requires-2
-rise-requires-2 c κs = search needs
+rise-requires : tie.Need-rise-requires
+rise-requires c κs = search needs
 
 returns-2 : tie.Need-returns-2
 returns-2 c =
-    λ C p a l. turn-done _ _ _ _ _ _ _ _ _ a (for-stops _ _ _ _ _ _ _ _ ((c .before .before .before .before .before .before .before .before .before .before) .pre .0) ((c .before .before .before .before .before .before .before .before .before .before) .pre .1 .1 .1 .0) _ _ p _ ((c .before .before .before .before) .if1 .left) ((c .before .before .before) .free .ensures) ((c .before) .enum-told .given .1) (c .rise2 .ensures)) refl
+    λ C p a l. turn-done _ _ _ _ _ _ _ _ _ a (for-stops _ _ _ _ _ _ _ _ ((c .before .before .before .before .before .before .before .before .before .before) .pre .0) ((c .before .before .before .before .before .before .before .before .before .before) .pre .1 .1 .1 .0) _ _ p _ ((c .before .before .before .before) .if1 .left) ((c .before .before .before) .free .ensures) ((c .before) .enum-told .given .1) (c .rise .ensures)) refl
 
 primed-requires : tie.Need-primed-requires
 primed-requires c κs =
@@ -71,4 +71,4 @@ returns-3 c =
     λ C p a l. freed-turns ((c .before .before .before .before .before .before .before .before .before .before .before .before .before .before .before .before) .free .ensures) ((c .before .before .before .before .before .before .before .before .before .before .before .before .before .before) .made .given .1) ((c .before .before .before .before .before .before .before .before .before .before .before .before .before .before .before .before .before) .if1 .left) ((c .before .before .before .before .before .before .before .before) .primed .ensures C p a l)
 
 pub each-spec : {M : Type 1} → statement M
-each-spec = tie.close (tie.spec wide-requires unbind-requires sub-repeat repeat-requires rise-requires same-length same-length-2 returns free-requires enum-known-made enum-told rise-requires-2 returns-2 primed-requires same-length-3 same-length-4 same-length-5 same-length-6 returns-3)
+each-spec = tie.close (tie.spec wide-requires unbind-requires sub-repeat repeat-requires raise-requires same-length same-length-2 returns free-requires enum-known-made enum-told rise-requires returns-2 primed-requires same-length-3 same-length-4 same-length-5 same-length-6 returns-3)

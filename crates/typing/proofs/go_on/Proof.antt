@@ -30,7 +30,7 @@ same-length c = search needs
 
 returns : tie.Need-returns
 returns c =
-    (went _ _ (c .wide .ensures) (omega arith), refl)
+    (went _ (c .wide .ensures) (omega arith), refl)
 
 pub go-on-spec : {M : Type 1} → statement M
 go-on-spec = tie.close (tie.spec mul-j add-j mul-stack slice-write-stack wide-requires add-top same-length returns)

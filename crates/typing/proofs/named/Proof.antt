@@ -1,7 +1,7 @@
 -- `typing::named` meets its contract: after its body the variable is unbound; after its source 14 stops it, or its body comes.
 -- Assumes nothing.
 use mathlib.Core.Path.{refl}
-use Rattle.typing.proofs.Turning.{turn-done, turn-second, let-stops, let-second, let-done, freed, freed-at, freed-bound, one-less}
+use Rattle.typing.proofs.Turning.{turn-done, turn-second, let-stops, let-second, let-done, freed, freed-at, freed-bound, there, one-less}
 use borrow.Author.Needs.{needs}
 use native.Mathlib.Omega.{arith}
 use Rattle.typing.proofs.named.Statement.{statement}
@@ -36,8 +36,8 @@ returns-2 : tie.Need-returns-2
 returns-2 c =
     λ D C p ws cs a l B low. turn-done D _ _ _ _ _ _ _ _ a (let-stops D _ _ _ _ _ _ _ B low _ _ p _ ((c .before .before .before .before) .if1 .left) ((c .before .before .before) .free .ensures) ((c .before) .enum-told .given .1) (c .rise2 .ensures)) refl
 
-cast-t22 : tie.Need-cast-t22
-cast-t22 c =
+cast-t23 : tie.Need-cast-t23
+cast-t23 c =
     omega (arith, freed-at ((c .before .before .before) .free .ensures) ((c .before) .made .given .1), (c .before .before .before .before .before .before .before) .pre .1 .1)
 
 bind-requires : tie.Need-bind-requires
@@ -53,8 +53,8 @@ same-length c = search needs
 returns-3 : tie.Need-returns-3
 returns-3 c =
     let f = freed ((c .before .before .before .before .before .before .before .before) .free .ensures) ((c .before .before .before .before .before .before) .made .given .1) ((c .before .before .before .before .before .before .before .before .before .before .before .before) .pre .1 .0) in
-    let e = freed-bound ((c .before .before .before .before .before .before .before .before) .free .ensures) ((c .before .before .before .before .before .before) .made .given .1) ((c .before .before .before .before .before .before .before .before .before .before) .wide .ensures) ((c .before .before .before .before) .bind .ensures) ((c .before .before) .go-on .ensures .0) in
+    let e = freed-bound ((c .before .before .before .before .before .before .before .before) .free .ensures) ((c .before .before .before .before .before .before) .made .given .1) ((c .before .before .before .before .before .before .before .before .before .before) .wide .ensures) ((c .before .before .before .before) .bind .ensures) (there _ ((c .before .before) .go-on .ensures .0)) in
     λ D C p ws cs a l B low. turn-second D _ _ _ _ _ _ _ _ a ((c .before .before .before .before .before .before .before .before .before) .if1 .left) l (let-second D _ _ _ _ _ _ _ B low _ _ p _ _ f e) refl ((c .before .before) .go-on .ensures .1)
 
 pub named-spec : {M : Type 1} → statement M
-named-spec = tie.close (tie.spec wide-requires unbind-requires rise-requires returns free-requires enum-known-made enum-told rise-requires-2 returns-2 cast-t22 bind-requires go-on-requires same-length returns-3)
+named-spec = tie.close (tie.spec wide-requires unbind-requires rise-requires returns free-requires enum-known-made enum-told rise-requires-2 returns-2 cast-t23 bind-requires go-on-requires same-length returns-3)

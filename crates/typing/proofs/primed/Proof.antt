@@ -2,7 +2,7 @@
 -- Assumes nothing.
 use mathlib.Core.Path.{refl}
 use Rattle.words.proofs.Tables.{table-length}
-use Rattle.typing.proofs.Turning.{turn-done, turn-second, prime-stops, for-second, made-low, class-few}
+use Rattle.typing.proofs.Turning.{turn-done, turn-second, prime-stops, for-second, made-low, class-few, there}
 use borrow.Author.Needs.{needs}
 use native.Mathlib.Omega.{arith}
 use Rattle.typing.proofs.primed.Statement.{statement}
@@ -72,7 +72,7 @@ same-length-7 c = search needs
 
 returns-2 : tie.Need-returns-2
 returns-2 c =
-    λ C p a l. turn-second _ _ _ _ _ _ _ _ _ a refl l (for-second _ _ _ _ _ _ _ _ ((c .before .before .before .before .before .before .before .before .before .before .before .before .before .before .before .before .before .before .before .before .before .before .before .before .before) .pre .0) ((c .before .before .before .before .before .before .before .before .before .before .before .before .before .before .before .before .before .before .before .before .before .before .before .before .before) .pre .1 .1 .1 .0) _ _ p _ ((c .before .before .before .before .before .before .before .before .before .before .before .before .before .before .before .before .before .before .before .before .before .before .before .before .before) .pre .1 .1 .0) ((c .before .before .before .before .before .before .before .before .before .before .before .before .before .before .before) .prime .ensures) _ _ ((c .before .before .before .before .before .before .before) .made .given .1) ((c .before .before .before .before .before .before .before .before .before .before .before .before .before .before .before .before .before .before .before .before .before .before .before .before .before) .pre .0 .ready .filled .right _ (rw table-length ((c .before .before .before .before .before .before .before .before .before .before .before .before .before .before .before .before .before .before .before .before .before .before .before .before .before) .pre .1 .1 .1 .0))) ((c .before .before .before .before .before) .wide .ensures) ((c .before .before .before .before) .bind .ensures) ((c .before .before) .go-on .ensures .0)) (omega arith) ((c .before .before) .go-on .ensures .1)
+    λ C p a l. turn-second _ _ _ _ _ _ _ _ _ a refl l (for-second _ _ _ _ _ _ _ _ ((c .before .before .before .before .before .before .before .before .before .before .before .before .before .before .before .before .before .before .before .before .before .before .before .before .before) .pre .0) ((c .before .before .before .before .before .before .before .before .before .before .before .before .before .before .before .before .before .before .before .before .before .before .before .before .before) .pre .1 .1 .1 .0) _ _ p _ ((c .before .before .before .before .before .before .before .before .before .before .before .before .before .before .before .before .before .before .before .before .before .before .before .before .before) .pre .1 .1 .0) ((c .before .before .before .before .before .before .before .before .before .before .before .before .before .before .before) .prime .ensures) _ _ ((c .before .before .before .before .before .before .before) .made .given .1) ((c .before .before .before .before .before .before .before .before .before .before .before .before .before .before .before .before .before .before .before .before .before .before .before .before .before) .pre .0 .ready .filled .right _ (rw table-length ((c .before .before .before .before .before .before .before .before .before .before .before .before .before .before .before .before .before .before .before .before .before .before .before .before .before) .pre .1 .1 .1 .0))) ((c .before .before .before .before .before) .wide .ensures) ((c .before .before .before .before) .bind .ensures) (there _ ((c .before .before) .go-on .ensures .0))) (omega arith) ((c .before .before) .go-on .ensures .1)
 
 pub primed-spec : {M : Type 1} → statement M
 primed-spec = tie.close (tie.spec mul-class slice-read-class prime-requires enum-known-made enum-told rise-requires same-length same-length-2 same-length-3 returns cast-go-on wide-requires bind-requires add-go-on go-on-requires same-length-4 same-length-5 same-length-6 same-length-7 returns-2)
