@@ -1,10 +1,8 @@
 // Reading an answer file back: 1 to 6 record by record, then 8 if record 80 is missing, then 9 and 10.
 ghost use mathlib.Core.Path.{_≡_};
-ghost use Prim.Native.Nat.{_≤_};
-ghost use lib.ListN.{length, take};
+ghost use lib.ListN.{length};
 ghost use Rattle.meaning.specs.Base.{refused, capsOf};
 ghost use Rattle.meaning.specs.Answers.{readAnswer};
-ghost use Rattle.words.specs.Tables.{tableOf};
 ghost use Rattle.back.specs.Says.{backOf, verdict, Ready, judged, Left, Settled};
 use guard::Checked;
 use reading::Given;

@@ -7,7 +7,7 @@ use Prim.Native.Nat.{ℕ, zero, suc, _+_, _-_, _≤_, _<_}
 use native.Mathlib.Omega.{arith}
 use borrow.Author.Tests.{le-leb, lt-ltb, le-ltb}
 use lib.ListN.{length}
-use Rattle.meaning.specs.Base.{Out, ok, refused, _>>=_}
+use Rattle.meaning.specs.Base.{Out, ok, _>>=_}
 use Rattle.meaning.specs.Records as Records
 use Rattle.meaning.specs.Records.{hasSection, Tables, fresh, readRecord, readFrom, readRecords}
 use Rattle.meaning.proofs.Ends.{ends-ok}
@@ -21,7 +21,7 @@ use Rattle.reading.specs.declared.Counts.{Counts}
 use Rattle.reading.specs.declared.Step.{Step}
 use Rattle.reading.specs.declared.Step.the-variants as Step
 use Rattle.reading.specs.Says.{caps}
-use Rattle.reading.specs.Steps.{isReadable, Counted, Shown, Placed, with, stepped, Next, Advances}
+use Rattle.reading.specs.Steps.{Counted, Shown, Placed, with, stepped, Next, Advances}
 use Rattle.reading.specs.Lists.{Lists, Holds, Space, Stores, Begun, Finished, Stopped}
 use Rattle.reading.proofs.Decoding.{vars-lent}
 use Rattle.reading.proofs.Storing.{worded, counted-with, counted-at}
@@ -61,15 +61,20 @@ fresh-read file room limit n h a b =
 abbrev pub start : Counts
 start = record { at = 0; types = 2; defs = 0; vars = 0; nodes = 0; section = 0; ended = false; result = 0 }
 
-pub begin : (file : File) (s : List ℕ) (room limit : ℕ) (k : Lists) → isReadable file → Begun room limit k → Going file s room limit k k start
-begin file s room limit k n b =
+-- neither a job nor an answer file has values
+no-values : (file : File) → hasSection (fileOf file) Records.value ≡ false
+no-values File.Job = refl
+no-values File.Answer = refl
+
+pub begin : (file : File) (s : List ℕ) (room limit : ℕ) (k : Lists) → Begun room limit k → Going file s room limit k k start
+begin file s room limit k b =
     record {
       tables = fresh;
       fuel = length s;
       within = omega arith;
       enough = omega arith;
       reads = refl;
-      read = fresh-read (fileOf file) room limit n (b .least) (b .few-types) (b .few-nodes);
+      read = fresh-read (fileOf file) room limit (no-values file) (b .least) (b .few-types) (b .few-nodes);
       counts = record { types = refl; defs = refl; vars = refl; nodes = refl; section = refl; ended = refl; result = refl };
       holds = b .holds;
       begun = b;
@@ -152,7 +157,7 @@ module _ {file : File} {s : List ℕ} {room limit : ℕ} {k l : Lists} {here : C
           holds = g .holds;
         }
 
-    module _ (i : Item) (next : Counts) (e : x ≡ Step.Store i next) (n : isReadable file) where
+    module _ (i : Item) (next : Counts) (e : x ≡ Step.Store i next) where
       moves : Next (fileOf file) s here i next
       moves = rw e at (a .goes)
 
@@ -160,7 +165,7 @@ module _ {file : File} {s : List ℕ} {room limit : ℕ} {k l : Lists} {here : C
       stands = there (fileOf file) s (here .at) (itemOf i) (moves .item)
 
       step-reads : Read (caps room limit) (i .next) (with (g .tables) i) × (here .at + 4 ≤ i .next)
-      step-reads = ends-ok (rw (a .steps (g .tables) shown, e) at (record-reads (fileOf file) s n (g .read)))
+      step-reads = ends-ok (rw (a .steps (g .tables) shown, e) at (record-reads (fileOf file) s (no-values file) (g .read)))
 
       next-at : next .at ≡ i .next
       next-at = ap (λ (c : Counts). c .at) (moves .counts) ∙ counted-at here i (sectionOf (i .form .section))
@@ -183,7 +188,7 @@ module _ {file : File} {s : List ℕ} {room limit : ℕ} {k l : Lists} {here : C
             enough = omega (arith, next-at, step-reads .1, g .enough);
             reads = rw next-at (onward (Step.Store i next) e);
             read = rw next-at (step-reads .0);
-            counts = rw (moves .counts) (counted-with i n stands (g .counts));
+            counts = rw (moves .counts) (counted-with i (no-values file) stands (g .counts));
             holds = rw (← g .types-same, ← g .code-same) (st (g .tables) (worded stands (moves .filled)) (g .counts) (rw (g .types-same, g .code-same) (g .holds)) (g .defs-same ∙ b .defs-long) (g .vars-same ∙ b .vars-long));
             begun = b;
             types-same = tl ∙ g .types-same;

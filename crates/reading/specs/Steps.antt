@@ -1,25 +1,21 @@
 -- What the counts say of the tables that have been read, and what one record does.
 -- Assumes nothing.
 use mathlib.Core.Path.{_≡_}
-use mathlib.Core.Bool.{true, false}
+use mathlib.Core.Bool.{true}
 use mathlib.Core.List.{List}
 use Prim.Native.Nat.{ℕ, _+_, _*_, _≤_}
 use lib.ListN.{length}
 use Rattle.meaning.specs.Base.{Out, ok, refused, otherwise, isSome, codeWidth}
 use Rattle.meaning.specs.Records as Records
-use Rattle.meaning.specs.Records.{Section, hasSection, order, recordAt, Tables, put, readRecord}
+use Rattle.meaning.specs.Records.{Section, order, recordAt, Tables, put, readRecord}
 use Rattle.words.specs.Tables.{codeOf, varsOf}
 use Rattle.records.specs.declared.File.{File}
 use Rattle.records.specs.declared.Item.{Item}
-use Rattle.records.specs.Says.{fileOf, sectionOf, itemOf, Filled}
+use Rattle.records.specs.Says.{sectionOf, itemOf, Filled}
 use Rattle.reading.specs.declared.Counts.{Counts}
 use Rattle.reading.specs.declared.Step.{Step}
 use Rattle.reading.specs.declared.Step.the-variants as Step
 use Rattle.reading.specs.Says.{caps}
-
--- a job or an answer file: a file that has no values
-abbrev pub isReadable : File → Type 0
-isReadable file = hasSection (fileOf file) Records.value ≡ false
 
 -- the counts of tables that have been read
 pub record Counted (here : Counts) (t : Tables) : Type 0 where

@@ -9,7 +9,7 @@ ghost use Rattle.meaning.specs.Records.{Tables, inOrder, hasRoom, declaredAgain
 ghost use Rattle.words.specs.Tables.{stored, varsOf};
 ghost use Rattle.records.specs.Says.{fileOf, sectionOf};
 ghost use Rattle.reading.specs.Says.{caps, nothingGiven, readOf, Left};
-ghost use Rattle.reading.specs.Steps.{isReadable, Counted, Few, Ready, Placed, counted, Admits, Advances};
+ghost use Rattle.reading.specs.Steps.{Counted, Few, Ready, Placed, counted, Admits, Advances};
 ghost use Rattle.reading.specs.Lists.{lists, Space, Stores, Blank, Begun, Ends};
 use records::File;
 use records::Item;
@@ -210,7 +210,7 @@ fn read_on(
     defs: &mut [u16],
     vars: &mut [u16],
 ) -> Reached
-    requires { ⌜ isReadable file ⌝ ∗ ⌜ Begun room limit (lists (now types) (now code) (now defs) (now vars)) ⌝ }
+    requires { ⌜ Begun room limit (lists (now types) (now code) (now defs) (now vars)) ⌝ }
     ensures { λ r. ⌜ Ends (length (now (types .entry))) (length (now (code .entry))) (lists (now (types .exit)) (now (code .exit)) (now (defs .exit)) (now (vars .exit))) (readFrom (length (now (s .entry))) (fileOf file) (caps room limit) (now (s .entry)) 0 fresh) r ⌝ }
 {
     let mut here = Counts {
@@ -304,7 +304,7 @@ fn put_base(types: &mut [u16])
 
 // Reads the records of a file into two tables that are clear and have room for entries 0 and 1.
 fn read_into(file: File, s: &[u8], types: &mut [u16], code: &mut [u16]) -> Read
-    requires { ⌜ isReadable file ⌝ ∗ ⌜ Blank (now types) ⌝ ∗ ⌜ now code ≡ zeros (length (now code)) ⌝ }
+    requires { ⌜ Blank (now types) ⌝ ∗ ⌜ now code ≡ zeros (length (now code)) ⌝ }
     ensures { λ r. ⌜ Left (length (now (types .entry))) (length (now (code .entry))) r (now (types .exit)) (now (code .exit)) (readRecords (fileOf file) (capsOf (length (now (types .entry))) (length (now (code .entry)))) (now (s .entry))) ⌝ }
 {
     let room = words::type_room(types);
@@ -343,7 +343,6 @@ fn read_into(file: File, s: &[u8], types: &mut [u16], code: &mut [u16]) -> Read
 
 // Reads the records of a file into two lent tables. A refusal leaves every word of them zero.
 pub fn read_records(file: File, s: &[u8], types: &mut [u16], code: &mut [u16]) -> Read
-    requires { ⌜ isReadable file ⌝ }
     ensures { λ r. ⌜ Left (length (now (types .entry))) (length (now (code .entry))) r (now (types .exit)) (now (code .exit)) (readRecords (fileOf file) (capsOf (length (now (types .entry))) (length (now (code .entry)))) (now (s .entry))) ⌝ }
 {
     words::clear(types);

@@ -6,7 +6,7 @@ use Prim.Native.Nat.{ℕ, zero, suc, min, _≤_, _<_}
 use native.Mathlib.Omega.{arith}
 use lib.Dec.{leb, eqb}
 use borrow.Author.Tests.{le-leb, lt-leb, ne-eqb}
-use Rattle.meaning.specs.Records.{Section, types, definitions, variables, query, result, value, order, job, answer, values, hasSection}
+use Rattle.meaning.specs.Records.{Section, types, definitions, variables, query, result, value, order, job, answer, hasSection}
 use Rattle.records.specs.declared.File.{File}
 use Rattle.records.specs.declared.File.the-variants as File
 use Rattle.records.specs.Says.{fileOf, sectionOf}
@@ -52,15 +52,6 @@ answer-has (suc (suc (suc zero))) = refl
 answer-has (suc (suc (suc (suc zero)))) = refl
 answer-has (suc (suc (suc (suc (suc n))))) = rw (lt-leb (suc (suc (suc (suc (suc n))))) 1 (omega arith), ne-eqb (suc (suc (suc (suc (suc n))))) 4 (λ e. omega arith))
 
-pub values-has : (n : ℕ) → leb 5 n ≡ hasSection values (sectionOf n)
-unfolding sectionOf
-values-has zero = refl
-values-has (suc zero) = refl
-values-has (suc (suc zero)) = refl
-values-has (suc (suc (suc zero))) = refl
-values-has (suc (suc (suc (suc zero)))) = refl
-values-has (suc (suc (suc (suc (suc n))))) = le-leb 5 (suc (suc (suc (suc (suc n))))) (omega arith)
-
 -- the same for a file that the code names
 module _ (file : File) (n : ℕ) where
   pub in-job : file ≡ File.Job → leb n 3 ≡ hasSection (fileOf file) (sectionOf n)
@@ -71,6 +62,3 @@ module _ (file : File) (n : ℕ) where
 
   pub in-answer-end : file ≡ File.Answer → 1 < n → eqb n 4 ≡ hasSection (fileOf file) (sectionOf n)
   in-answer-end e l = rw (e, ← answer-has n, lt-leb n 1 l)
-
-  pub in-values : file ≡ File.Values → leb 5 n ≡ hasSection (fileOf file) (sectionOf n)
-  in-values e = rw e (values-has n)

@@ -31,7 +31,6 @@ sortOf Sort.CondNo = Records.condNo
 abbrev pub fileOf : File → Records.File
 fileOf File.Job = Records.job
 fileOf File.Answer = Records.answer
-fileOf File.Values = Records.values
 
 -- the section with this number (`order`); any number from 5 on is that of values files
 unfoldable pub sectionOf : ℕ → Section

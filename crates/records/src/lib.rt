@@ -20,11 +20,10 @@ pub enum Sort {
     CondNo,
 }
 
-// What is read: a job, an answer file or a values file.
+// What is read in sections: a job or an answer file.
 pub enum File {
     Job,
     Answer,
-    Values,
 }
 
 // What a record of a kind has: the number of its section (0 types, 1 definitions, 2 variables, 3 query, 4 result, 5 values), its length in bytes, and
@@ -210,7 +209,6 @@ fn has_section(file: File, section: u16) -> bool
             }
             section == 4
         }
-        File::Values => 5 <= section,
     }
 }
 

@@ -31,7 +31,7 @@ read-on-requires c κs =
     let code-room = (c .before .before .before .before .before .before .before .before) .code-room in
     let type-room = (c .before .before .before .before .before .before .before .before .before .before) .type-room in
     let start = (c .before .before .before .before .before .before .before .before .before .before .before .before .before .before .before) in
-    ((start .pre .0), begun (start .pre .1 .0) (type-room .ensures) (code-room .ensures) (put-base .kept .0) (put-base .ensures) (start .pre .1 .1) refl refl)
+    (begun (start .pre .0) (type-room .ensures) (code-room .ensures) (put-base .kept .0) (put-base .ensures) (start .pre .1) refl refl)
 
 enum-known-c : tie.Need-enum-known-c
 enum-known-c c = search needs
@@ -65,7 +65,7 @@ returns c =
     let code-room = (c .before .before .before .before .before .before .before .before .before .before .before .before .before .before .before .before .before .before) .code-room in
     let type-room = (c .before .before .before .before .before .before .before .before .before .before .before .before .before .before .before .before .before .before .before .before) .type-room in
     let start = (c .before .before .before .before .before .before .before .before .before .before .before .before .before .before .before .before .before .before .before .before .before .before .before .before .before) in
-    left-done {u = read-on .last .1 .1 .1 .1 .0} {w = read-on .last .1 .1 .1 .1 .1 .0} _ _ (type-room .ensures) (code-room .ensures) (start .pre .1 .0 .room) (put-base .kept .0) refl (lists (read-on .last .1 .1 .1 .1 .0) (read-on .last .1 .1 .1 .1 .1 .0) (read-on .last .1 .1 .1 .1 .1 .1 .0) (read-on .last .1 .1 .1 .1 .1 .1 .1 .0)) (read-on .ensures) _ ((c .before) .c .given .1) refl refl refl
+    left-done {u = read-on .last .1 .1 .1 .1 .0} {w = read-on .last .1 .1 .1 .1 .1 .0} _ _ (type-room .ensures) (code-room .ensures) (start .pre .0 .room) (put-base .kept .0) refl (lists (read-on .last .1 .1 .1 .1 .0) (read-on .last .1 .1 .1 .1 .1 .0) (read-on .last .1 .1 .1 .1 .1 .1 .0) (read-on .last .1 .1 .1 .1 .1 .1 .1 .0)) (read-on .ensures) _ ((c .before) .c .given .1) refl refl refl
 
 same-length-3 : tie.Need-same-length-3
 same-length-3 c = search needs
@@ -76,7 +76,7 @@ same-length-4 c = search needs
 returns-2 : tie.Need-returns-2
 returns-2 c =
     let read-on = (c .before .before .before .before .before .before .before .before .before .before .before .before .before .before .before .before .before .before) .read-on in
-    left-refused _ _ ((c .before .before .before .before .before .before .before .before .before .before .before .before .before .before .before .before .before .before .before .before .before .before .before .before .before .before .before .before .before) .type-room .ensures) ((c .before .before .before .before .before .before .before .before .before .before .before .before .before .before .before .before .before .before .before .before .before .before .before .before .before .before .before) .code-room .ensures) ((c .before .before .before .before .before .before .before .before .before .before .before .before .before .before .before .before .before .before .before .before .before .before .before .before .before .before .before .before .before .before .before .before .before .before) .pre .1 .0 .room) ((c .before .before .before .before .before .before .before .before .before .before .before .before .before .before .before .before .before .before .before .before .before .before .before .before .before) .put-base .kept .0) refl (lists (read-on .last .1 .1 .1 .1 .0) (read-on .last .1 .1 .1 .1 .1 .0) (read-on .last .1 .1 .1 .1 .1 .1 .0) (read-on .last .1 .1 .1 .1 .1 .1 .1 .0)) (read-on .ensures) ((c .before .before .before .before .before .before .before .before .before .before) .number .given .1) (c .refusal .ensures) (read-on .kept .1 .1 .1 .1 .0) (read-on .kept .1 .1 .1 .1 .1 .0) ((c .before .before .before .before .before .before .before) .clear-entries .ensures) ((c .before .before .before) .clear-nodes .ensures)
+    left-refused _ _ ((c .before .before .before .before .before .before .before .before .before .before .before .before .before .before .before .before .before .before .before .before .before .before .before .before .before .before .before .before .before) .type-room .ensures) ((c .before .before .before .before .before .before .before .before .before .before .before .before .before .before .before .before .before .before .before .before .before .before .before .before .before .before .before) .code-room .ensures) ((c .before .before .before .before .before .before .before .before .before .before .before .before .before .before .before .before .before .before .before .before .before .before .before .before .before .before .before .before .before .before .before .before .before .before) .pre .0 .room) ((c .before .before .before .before .before .before .before .before .before .before .before .before .before .before .before .before .before .before .before .before .before .before .before .before .before) .put-base .kept .0) refl (lists (read-on .last .1 .1 .1 .1 .0) (read-on .last .1 .1 .1 .1 .1 .0) (read-on .last .1 .1 .1 .1 .1 .1 .0) (read-on .last .1 .1 .1 .1 .1 .1 .1 .0)) (read-on .ensures) ((c .before .before .before .before .before .before .before .before .before .before) .number .given .1) (c .refusal .ensures) (read-on .kept .1 .1 .1 .1 .0) (read-on .kept .1 .1 .1 .1 .1 .0) ((c .before .before .before .before .before .before .before) .clear-entries .ensures) ((c .before .before .before) .clear-nodes .ensures)
 
 pub read-into-spec : {M : Type 1} → statement M
 read-into-spec = tie.close (tie.spec type-room-requires code-room-requires put-base-requires slice-aggregate-read-on slice-aggregate-read-on-2 read-on-requires enum-known-c enum-known-number clear-entries-requires clear-nodes-requires refusal-requires same-length same-length-2 returns same-length-3 same-length-4 returns-2)

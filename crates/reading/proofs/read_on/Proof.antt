@@ -17,7 +17,7 @@ abbrev μ-loop : tie.MeasureT-loop
 loop-holds : tie.Need-loop-holds Inv-loop μ-loop
 loop-holds c =
     let start = (c .before .before .before .before .before) in
-    begin _ _ _ _ _ (start .pre .0) (start .pre .1)
+    begin _ _ _ _ _ (start .pre)
 
 advance-requires : tie.Need-advance-requires Inv-loop μ-loop
 advance-requires c κs =
@@ -34,7 +34,7 @@ store-requires c κs =
     let if1 = (c .before .before .before .before .before .before .before .before .before .before) .if1 in
     let loop = (c .before .before .before .before .before .before .before .before .before .before .before .before) .loop in
     let start = (c .before .before .before .before .before .before .before .before .before .before .before .before .before .before .before .before .before .before) in
-    space (loop .inv) (if1 .taken) (advance .ensures) _ _ (i .given .1) (start .pre .0)
+    space (loop .inv) (if1 .taken) (advance .ensures) _ _ (i .given .1)
 
 loop-less : tie.Need-loop-less Inv-loop μ-loop
 loop-less c =
@@ -43,7 +43,7 @@ loop-less c =
     let if1 = (c .before .before .before .before .before .before .before .before .before .before .before .before .before .before .before .before .before .before .before) .if1 in
     let loop = (c .before .before .before .before .before .before .before .before .before .before .before .before .before .before .before .before .before .before .before .before .before) .loop in
     let start = (c .before .before .before .before .before .before .before .before .before .before .before .before .before .before .before .before .before .before .before .before .before .before .before .before .before .before .before) in
-    less (loop .inv) (if1 .taken) (advance .ensures) _ _ (i .given .1) (start .pre .0)
+    less (loop .inv) (if1 .taken) (advance .ensures) _ _ (i .given .1)
 
 loop-again : tie.Need-loop-again Inv-loop μ-loop
 loop-again c =
@@ -53,7 +53,7 @@ loop-again c =
     let if1 = (c .before .before .before .before .before .before .before .before .before .before .before .before .before .before .before .before .before .before .before) .if1 in
     let loop = (c .before .before .before .before .before .before .before .before .before .before .before .before .before .before .before .before .before .before .before .before .before) .loop in
     let start = (c .before .before .before .before .before .before .before .before .before .before .before .before .before .before .before .before .before .before .before .before .before .before .before .before .before .before .before) in
-    goes (loop .inv) (if1 .taken) (advance .ensures) _ _ (i .given .1) (start .pre .0) (lists (store .last .1 .1 .0) (store .last .1 .1 .1 .0) (store .last .1 .1 .1 .1 .0) (store .last .1 .1 .1 .1 .1 .0)) (store .ensures) (store .kept .1 .1 .0) (store .kept .1 .1 .1 .0) (store .kept .1 .1 .1 .1 .0) (store .kept .1 .1 .1 .1 .1 .0)
+    goes (loop .inv) (if1 .taken) (advance .ensures) _ _ (i .given .1) (lists (store .last .1 .1 .0) (store .last .1 .1 .1 .0) (store .last .1 .1 .1 .1 .0) (store .last .1 .1 .1 .1 .1 .0)) (store .ensures) (store .kept .1 .1 .0) (store .kept .1 .1 .1 .0) (store .kept .1 .1 .1 .1 .0) (store .kept .1 .1 .1 .1 .1 .0)
 
 enum-known-number : tie.Need-enum-known-number Inv-loop μ-loop
 enum-known-number c = search needs

@@ -38,7 +38,7 @@ read-into-requires c κs =
     let clear2 = c .before .before .before .before .before .before .before .clear2 in
     let clear = c .before .before .before .before .before .before .before .before .before .before .before .clear in
     let start = c .before .before .before .before .before .before .before .before .before .before .before .before .before .before .before .before in
-    ((start .pre), (record { clear = cleared _ (clear .ensures); room = omega (arith, (if1 .left), (type-room .ensures)) }, cleared _ (clear2 .ensures)))
+    (record { clear = cleared _ (clear .ensures); room = omega (arith, (if1 .left), (type-room .ensures)) }, cleared _ (clear2 .ensures))
 
 same-length-3 : tie.Need-same-length-3
 same-length-3 c = search needs
