@@ -1,19 +1,18 @@
 -- What is left after the writer, by its answer; and typing with the writer after it is `answerJob`.
 -- Assumes nothing.
-use mathlib.Core.Path.{_≡_, ap, sym, subst, _∙_}
-use mathlib.Core.List.{List}
-use Prim.Native.Nat.{ℕ}
+use mathlib.Core.Path.{_≡_, refl, ap, sym, subst, _∙_}
+use mathlib.Core.List.{List, _++_}
+use Prim.Native.Nat.{ℕ, _*_, _≤_}
 use native.Mathlib.Omega.{arith}
-use lib.ListN.{length, take}
-use Rattle.meaning.specs.Base.{Out, ok, refused, _>>=_, zeros, capsOf, typeWidth}
-use Rattle.meaning.specs.Types.{entryWords, tableWords}
+use lib.ListN.{length, take, drop}
+use Rattle.meaning.specs.Base.{Out, ok, refused, _>>=_, zeros, capsOf, typeWidth, codeWidth}
 use Rattle.meaning.specs.Typing as Typing
 use Rattle.meaning.specs.Typing.{typeJob, typedTypes, typedCode}
 use Rattle.meaning.specs.Answers as Answers
 use Rattle.meaning.specs.Answers.{answerFile, fitted, answerJob}
 use Rattle.words.specs.Tables.{tableOf}
-use Rattle.words.proofs.Rows.{padded-most, rows-length}
-use Rattle.words.proofs.Tables.{entry-wide}
+use Rattle.words.proofs.Rows.{padded-most}
+use Rattle.words.proofs.Tables.{table-inside, table-cleared, code-inside, code-cleared}
 use Rattle.reading.specs.declared.Given.{Given}
 use Rattle.answers.specs.declared.Written.{Written}
 use Rattle.answers.specs.declared.Written.the-variants as Written
@@ -34,7 +33,7 @@ module _ {types query : List ℕ} {result count nodes : ℕ} {g : Given} {t : Ty
   pub holds-ready : Ready types count (g .defs) (g .used) result
   holds-ready =
       record {
-        types-inside = omega (arith, h .entries, rows-length entryWords typeWidth entry-wide (t .left .types), padded-most (length types) (tableWords (t .left .types)), ap length (h .words));
+        types-inside = table-inside (length types) (t .left .types) (h .entries) (h .words);
         defs-inside = rw (h .is) (padded-most 64 (t .job .defs));
         formed = rw (holds-table h, holds-defs h) (h .formed);
         low = omega (arith, h .named, h .entries, h .low);
@@ -73,14 +72,17 @@ module _ (types query : List ℕ) (room result count nodes : ℕ) (g : Given) (x
   pub written-settled : {n : ℕ} → x ≡ Written.Bytes n → Settled types query room result count nodes g (record { answer = Accepted n result count nodes; given = g }) types query b
   written-settled p = record { leaves = λ t h. fit-leaves h (fitted-is room (fileOf t)) (subst (λ (y : Written). Writes.Left room y b (fitted room (fileOf t))) p (of-job h)) }
 
-  pub short-settled : {n : ℕ} {r : Answered} {u w : List ℕ} → x ≡ Written.Short n → r ≡ answeredOf (refused 17 n) → u ≡ zeros (length types) → w ≡ zeros (length query) → Settled types query room result count nodes g r u w b
-  short-settled p q z y = record { leaves = λ t h. short-leaves h q z y (fitted-is room (fileOf t)) (subst (λ (y : Written). Writes.Left room y b (fitted room (fileOf t))) p (of-job h)) }
+  pub short-settled : {n : ℕ} {r : Answered} {u w : List ℕ} → x ≡ Written.Short n → r ≡ answeredOf (refused 17 n) → u ≡ zeros (typeWidth * count) ++ drop (typeWidth * count) types → w ≡ zeros (codeWidth * nodes) ++ drop (codeWidth * nodes) query → Settled types query room result count nodes g r u w b
+  short-settled p q z y = record { leaves = λ t h. short-leaves h q (table-cleared (length types) (t .left .types) (h .entries) (h .words) refl z) (code-cleared (length query) (t .job .code) (h .nodes-are) (h .code) refl y) (fitted-is room (fileOf t)) (subst (λ (y : Written). Writes.Left room y b (fitted room (fileOf t))) p (of-job h)) }
 
 -- AFTER TYPING, by its answer
 module _ {tw cw : ℕ} {r : Typed} {u w : List ℕ} (s : List ℕ) (l : Types.Left tw cw r u w (typeJob (capsOf tw cw) s)) where
   module _ {result count nodes : ℕ} (p : r .answer ≡ Told.Accepted result count nodes) where
     pub job-ready : Ready u count (r .given .defs) (r .given .used) result
     job-ready = holds-ready (told-accepted s l p .holds)
+
+    pub job-long : codeWidth * nodes ≤ length w
+    job-long = let k = told-accepted s l p in code-inside (length w) (k .typed .job .code) (k .holds .nodes-are) (k .holds .code)
 
     pub job-settled : {room : ℕ} {a : Answered} {x y b : List ℕ} → Settled u w room result count nodes (r .given) a x y b → Left tw cw room a x y b (answerJob (capsOf tw cw) room s)
     job-settled {room} {a} {x} {y} {b} k =

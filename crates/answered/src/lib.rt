@@ -1,7 +1,8 @@
 // Answering a job: typing it, then its answer file into a lent buffer, or 17.
 ghost use mathlib.Core.Path.{_≡_};
+ghost use Prim.Native.Nat.{_*_, _≤_};
 ghost use lib.ListN.{length};
-ghost use Rattle.meaning.specs.Base.{refused, capsOf};
+ghost use Rattle.meaning.specs.Base.{refused, capsOf, codeWidth};
 ghost use Rattle.meaning.specs.Answers.{answerJob};
 ghost use Rattle.answers.specs.Says.{Ready};
 ghost use Rattle.answered.specs.Says.{answeredOf, Left, Settled};
@@ -37,7 +38,7 @@ fn refusal(number: u16, place: usize) -> Answered
     Answered { answer, given }
 }
 
-// The answer file of a typed job: the tables stay, or 17 and both are cleared.
+// The answer file of a typed job: the tables stay, or 17 and what typing wrote is cleared.
 fn settle(
     types: &mut [u16],
     query: &mut [u16],
@@ -47,7 +48,7 @@ fn settle(
     nodes: usize,
     given: Given,
 ) -> Answered
-    requires { ⌜ Ready (now types) count (given .defs) (given .used) result ⌝ }
+    requires { ⌜ Ready (now types) count (given .defs) (given .used) result ⌝ ∗ ⌜ codeWidth * nodes ≤ length (now query) ⌝ }
     ensures { λ r. ⌜ Settled (now (types .entry)) (now (query .entry)) (length (now (answer .entry))) result count nodes given r (now (types .exit)) (now (query .exit)) (now (answer .exit)) ⌝ }
 {
     let defs = given.defs;
@@ -62,8 +63,8 @@ fn settle(
             Answered { answer, given }
         }
         Written::Short(place) => {
-            words::clear(types);
-            words::clear(query);
+            words::clear_entries(types, count);
+            words::clear_nodes(query, nodes);
             refusal(17, place)
         }
     }

@@ -1,13 +1,12 @@
 -- What is left after the evaluation and after the loader, by their answers; and typing with these after it is `runJob`.
 -- Assumes nothing.
-use mathlib.Core.Path.{_≡_, ap, sym, subst, _∙_}
-use mathlib.Core.List.{List}
-use Prim.Native.Nat.{ℕ, _-_, _≤_}
+use mathlib.Core.Path.{_≡_, refl, ap, sym, subst, _∙_}
+use mathlib.Core.List.{List, _++_}
+use Prim.Native.Nat.{ℕ, _*_, _-_, _≤_}
 use native.Mathlib.Omega.{arith}
-use lib.ListN.{length}
-use Rattle.meaning.specs.Base.{Out, ok, refused, _>>=_, concatMap, zeros, capsOf, workCapacity, codeWidth}
+use lib.ListN.{length, drop}
+use Rattle.meaning.specs.Base.{Out, ok, refused, _>>=_, concatMap, zeros, capsOf, workCapacity, typeWidth, codeWidth}
 use Rattle.meaning.specs.Forests.{Forest, size}
-use Rattle.meaning.specs.Records.{nodeWords}
 use Rattle.meaning.specs.Queries.{Query, queryAt}
 use Rattle.meaning.specs.Typing as Typing
 use Rattle.meaning.specs.Typing.{root, typeJob, typedTypes, typedCode}
@@ -16,7 +15,7 @@ use Rattle.meaning.specs.Running.{eval, envOf, runJob}
 use Rattle.meaning.proofs.Reading.{capsOf-small, vars-wider}
 use Rattle.words.specs.Tables.{codeOf, varsOf}
 use Rattle.words.proofs.Rows.{padded-most, rows-length}
-use Rattle.words.proofs.Tables.{vars-length, node-wide}
+use Rattle.words.proofs.Tables.{vars-length, table-inside, table-cleared, code-inside, code-cleared}
 use Rattle.reading.specs.declared.Given.{Given}
 use Rattle.reading.specs.Says.{varWords}
 use Rattle.reading.proofs.Decoding.{var-wide}
@@ -39,6 +38,17 @@ use Rattle.ran.specs.declared.Ran.{Ran}
 use Rattle.ran.specs.Says as Says
 use Rattle.ran.specs.Says.{ranOf, Left, Loads, Ready, Begins, Evaluated, Evaluates, Settles, running, Answers}
 
+-- WHAT IS LEFT OF TABLES that typing left, once their entries are cleared: nothing
+abbrev frontless : ℕ → ℕ → List ℕ → List ℕ
+frontless width n t = zeros (width * n) ++ drop (width * n) t
+
+module _ {types query : List ℕ} {result count nodes : ℕ} {g : Given} {t : Typing.Typed} (h : Holds types query result count nodes g t) where
+  types-cleared : {u : List ℕ} → u ≡ frontless typeWidth count types → u ≡ zeros (length types)
+  types-cleared e = table-cleared (length types) (t .left .types) (h .entries) (h .words) refl e
+
+  code-gone : {w : List ℕ} → w ≡ frontless codeWidth nodes query → w ≡ zeros (length query)
+  code-gone e = code-cleared (length query) (t .job .code) (h .nodes-are) (h .code) refl e
+
 -- AFTER THE EVALUATION, by its answer
 module _ {types query : List ℕ} {result count nodes : ℕ} {g : Given} {t : Typing.Typed} (h : Holds types query result count nodes g t) {f : Forest} {first : ℕ} (e : first ≡ size f) {words : ℕ} {work : List ℕ} where
   done-leaves : {k : ℕ} {made : Made} {o : Out Forest} → made ≡ Made.Done k → Evaluated words work f made o
@@ -49,16 +59,16 @@ module _ {types query : List ℕ} {result count nodes : ℕ} {g : Given} {t : Ty
       record { answer = rw (e, ← p, ← c, h .named, h .entries, h .nodes-are, h .is); types = h .words; code = h .code; work = l }
   done-leaves q Says.full = differ (cc)
 
-  full-leaves : {n : ℕ} {made : Made} {o : Out Forest} {r : Ran} {u w x : List ℕ} → made ≡ Made.Full n → r ≡ ranOf (refused 21 n) → u ≡ zeros (length types) → w ≡ zeros (length query) → x ≡ zeros words → Evaluated words work f made o
+  full-leaves : {n : ℕ} {made : Made} {o : Out Forest} {r : Ran} {u w x : List ℕ} → made ≡ Made.Full n → r ≡ ranOf (refused 21 n) → u ≡ frontless typeWidth count types → w ≡ frontless codeWidth nodes query → x ≡ zeros words → Evaluated words work f made o
       → Left (length types) (length query) words r u w x (o >>= λ x. ok (record { typed = t; loaded = f; result = x }))
   full-leaves q a u w x (Says.done c l) = differ (cc)
-  full-leaves {n} {r = r} q a u w x (Says.full {n = m}) = let p : n ≡ m = cc in record { answer = subst (λ (y : ℕ). r ≡ ranOf (refused 21 y)) p a; types = u; code = w; work = x }
+  full-leaves {n} {r = r} q a u w x (Says.full {n = m}) = let p : n ≡ m = cc in record { answer = subst (λ (y : ℕ). r ≡ ranOf (refused 21 y)) p a; types = types-cleared h u; code = code-gone h w; work = x }
 
 module _ (types query work : List ℕ) (first result count nodes : ℕ) (g : Given) {made : Made} where
   pub done-settles : {k : ℕ} → made ≡ Made.Done k → Settles types query work first result count nodes g made (record { answer = Accepted first k result count nodes; given = g }) types query work
   done-settles q = record { leaves = λ t f o h e x. done-leaves h e q x }
 
-  pub full-settles : {n : ℕ} {r : Ran} {u w x : List ℕ} → made ≡ Made.Full n → r ≡ ranOf (refused 21 n) → u ≡ zeros (length types) → w ≡ zeros (length query) → x ≡ zeros (length work) → Settles types query work first result count nodes g made r u w x
+  pub full-settles : {n : ℕ} {r : Ran} {u w x : List ℕ} → made ≡ Made.Full n → r ≡ ranOf (refused 21 n) → u ≡ frontless typeWidth count types → w ≡ frontless codeWidth nodes query → x ≡ zeros (length work) → Settles types query work first result count nodes g made r u w x
   full-settles q a u w x = record { leaves = λ t f o h e y. full-leaves h e q a u w x y }
 
 -- THE QUERY in the tables
@@ -110,7 +120,7 @@ module _ {words : ℕ} {l : Loaded} {work : List ℕ} (values : List ℕ) (g : G
             let left : Left (length types) (length query) (length after) r u w y (o >>= λ x. ok (record { typed = t; loaded = joined vs; result = x })) = s .leaves t (joined vs) o h (accepts .entries) (subst (λ (m : ℕ). Evaluated m after (joined vs) made o) (sym kept) ran) in
             subst (Left (length types) (length query) words r u w y) (sym (run-of h)) (subst (λ (m : ℕ). Left (length types) (length query) m r u w y (o >>= λ x. ok (record { typed = t; loaded = joined vs; result = x }))) kept left)
 
-  pub load-stopped : {n place : ℕ} {types query : List ℕ} {result count nodes : ℕ} {r : Ran} {u w : List ℕ} → l .answer ≡ Load.Refused n place → r ≡ ranOf (refused n place) → u ≡ zeros (length types) → w ≡ zeros (length query)
+  pub load-stopped : {n place : ℕ} {types query : List ℕ} {result count nodes : ℕ} {r : Ran} {u w : List ℕ} → l .answer ≡ Load.Refused n place → r ≡ ranOf (refused n place) → u ≡ frontless typeWidth count types → w ≡ frontless codeWidth nodes query
       → Answers values types query words result count nodes g r u w work
   load-stopped {n} {place} {types} {query} {result} {count} {nodes} {r} {u} {w} p a b c = record { leaves = leaves }
     where
@@ -118,13 +128,16 @@ module _ {words : ℕ} {l : Loaded} {work : List ℕ} (values : List ℕ) (g : G
       leaves t h =
           let z = turned-away (loadValues (workCapacity words) (varsOf (g .vars) (g .declared)) values) x p in
           let none : loadValues (workCapacity words) (t .job .vars) values ≡ refused n place = ap (λ vars. loadValues (workCapacity words) vars values) (sym (holds-vars h)) ∙ z .0 in
-          rw none (record { answer = a; types = b; code = c; work = z .1 })
+          rw none (record { answer = a; types = types-cleared h b; code = code-gone h c; work = z .1 })
 
 -- AFTER TYPING, by its answer
 module _ {tw cw : ℕ} {r : Typed} {u w : List ℕ} (s : List ℕ) (l : Types.Left tw cw r u w (typeJob (capsOf tw cw) s)) where
   module _ {result count nodes : ℕ} (p : r .answer ≡ Told.Accepted result count nodes) where
     told : Accepts tw cw s result count nodes r u w
     told = told-accepted s l p
+
+    pub job-long : typeWidth * count ≤ length u
+    job-long = let h = told .holds in table-inside (length u) (told .typed .left .types) (h .entries) (h .words)
 
     pub job-ready : Ready w nodes (r .given)
     job-ready =
@@ -134,7 +147,7 @@ module _ {tw cw : ℕ} {r : Typed} {u w : List ℕ} (s : List ℕ) (l : Types.Le
         record {
           coded =
               record {
-                inside = omega (arith, h .nodes-are, ap length (h .code), rows-length nodeWords codeWidth node-wide (told .typed .job .code), padded-most (length w) (concatMap nodeWords (told .typed .job .code)));
+                inside = code-inside (length w) (told .typed .job .code) (h .nodes-are) (h .code);
                 few = omega (arith, h .nodes-are, a .few-code, small .code);
                 low = rw (holds-code h) (a .nodes);
               };

@@ -1,9 +1,9 @@
 // Running a job on values: typing it, loading the values into the work table, and evaluating the query behind them; 1 to 16, then 18 to 21.
 ghost use mathlib.Core.Path.{_≡_};
-ghost use mathlib.Core.List.{_∷_};
+ghost use mathlib.Core.List.{_∷_, _++_};
 ghost use Prim.Native.Nat.{_*_, _≤_};
-ghost use lib.ListN.{length, getD};
-ghost use Rattle.meaning.specs.Base.{refused, zeros, capsOf, workCapacity};
+ghost use lib.ListN.{length, getD, drop};
+ghost use Rattle.meaning.specs.Base.{refused, zeros, capsOf, typeWidth, codeWidth, workCapacity};
 ghost use Rattle.meaning.specs.Formed.{VarsRead};
 ghost use Rattle.meaning.specs.Running.{runJob};
 ghost use Rattle.words.specs.Tables.{varsOf};
@@ -44,12 +44,20 @@ fn refusal(number: u16, place: usize) -> Ran
     Ran { answer, given }
 }
 
-// A refusal after typing: the type table and the query table are cleared.
-fn refuse(types: &mut [u16], query: &mut [u16], number: u16, place: usize) -> Ran
-    ensures { λ r. ⌜ (r ≡ ranOf (refused number place)) × (now (types .exit) ≡ zeros (length (now (types .entry)))) × (now (query .exit) ≡ zeros (length (now (query .entry)))) ⌝ }
+// A refusal after typing: so many type entries and query nodes are cleared.
+fn refuse(
+    types: &mut [u16],
+    query: &mut [u16],
+    count: usize,
+    nodes: usize,
+    number: u16,
+    place: usize,
+) -> Ran
+    requires { ⌜ typeWidth * count ≤ length (now types) ⌝ ∗ ⌜ codeWidth * nodes ≤ length (now query) ⌝ }
+    ensures { λ r. ⌜ (r ≡ ranOf (refused number place)) × (now (types .exit) ≡ zeros (typeWidth * count) ++ drop (typeWidth * count) (now (types .entry))) × (now (query .exit) ≡ zeros (codeWidth * nodes) ++ drop (codeWidth * nodes) (now (query .entry))) ⌝ }
 {
-    words::clear(types);
-    words::clear(query);
+    words::clear_entries(types, count);
+    words::clear_nodes(query, nodes);
     refusal(number, place)
 }
 
@@ -142,7 +150,7 @@ fn evaluate(
     )
 }
 
-// The answer after the evaluation behind so many entries: the tables stay, or all are cleared.
+// The answer after the evaluation behind so many entries: the tables stay, or what was written is cleared. At 21 the work table is full.
 fn settle(
     types: &mut [u16],
     query: &mut [u16],
@@ -154,6 +162,7 @@ fn settle(
     given: Given,
     made: Made,
 ) -> Ran
+    requires { ⌜ typeWidth * count ≤ length (now types) ⌝ ∗ ⌜ codeWidth * nodes ≤ length (now query) ⌝ }
     ensures { λ r. ⌜ Settles (now (types .entry)) (now (query .entry)) (now (work .entry)) first result count nodes given made r (now (types .exit)) (now (query .exit)) (now (work .exit)) ⌝ }
 {
     match made {
@@ -169,7 +178,7 @@ fn settle(
         }
         Made::Full(place) => {
             words::clear(work);
-            refuse(types, query, 21, place)
+            refuse(types, query, count, nodes, 21, place)
         }
     }
 }
@@ -185,7 +194,7 @@ fn run_typed(
     nodes: usize,
     given: Given,
 ) -> Ran
-    requires { ⌜ Ready (now query) nodes given ⌝ }
+    requires { ⌜ Ready (now query) nodes given ⌝ ∗ ⌜ typeWidth * count ≤ length (now types) ⌝ }
     ensures { λ r. ⌜ Answers (now (values .entry)) (now (types .entry)) (now (query .entry)) (length (now (work .entry))) result count nodes given r (now (types .exit)) (now (query .exit)) (now (work .exit)) ⌝ }
 {
     let vars = given.vars;
@@ -193,7 +202,9 @@ fn run_typed(
     let told = loaded.answer;
     let ends = loaded.ends;
     match told {
-        values::Answer::Refused { number, place } => refuse(types, query, number, place),
+        values::Answer::Refused { number, place } => {
+            refuse(types, query, count, nodes, number, place)
+        }
         values::Answer::Values { entries } => {
             let made = evaluate(query, nodes, given, &ends, work, entries);
             settle(

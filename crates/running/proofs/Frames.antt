@@ -4,10 +4,11 @@ use mathlib.Core.Path.{_≡_, refl, sym, ap, _∙_}
 use mathlib.Core.List.{List, [], _∷_, _++_}
 use Prim.Native.Nat.{ℕ, suc, _+_, _*_, _≤_, _<_}
 use native.Mathlib.Omega.{arith}
-use lib.ListN.{length, getD, take, drop, length-append, length-drop}
+use lib.ListN.{length, getD, take, drop}
 use lib.Seq.{getD-append-add, getD-take, length-take-le, take-all, take-append-le}
 use Rattle.words.specs.Tables.{stored}
 use Rattle.words.specs.declared.Entry.{Entry}
+use Rattle.words.proofs.Rows.{stored-length}
 use Rattle.spans.specs.declared.Spans.{Spans}
 use Rattle.running.specs.declared.Frame.{Frame}
 use Rattle.running.specs.declared.Next.{Next}
@@ -34,12 +35,6 @@ stored-before t ws at j h l =
   where
     take-self : (n : ℕ) (l : List ℕ) → n ≤ length l → take n (take n l) ≡ take n l
     take-self n l h = take-all n (take n l) (omega (arith, length-take-le n l h))
-
-pub stored-length : (t ws : List ℕ) (at : ℕ) → at + length ws ≤ length t → length (stored t at ws) ≡ length t
-unfolding stored
-stored-length t ws at h =
-    length-append (take at t) (ws ++ drop (at + length ws) t)
-    ∙ omega (arith, length-take-le at t (omega arith), length-append ws (drop (at + length ws) t), length-drop (at + length ws) t)
 
 frame-is : {f g : Frame} → f .node ≡ g .node → f .base ≡ g .base → f .kept ≡ g .kept → f .next ≡ g .next → f .hides .from ≡ g .hides .from → f .hides .to ≡ g .hides .to → f ≡ g
 frame-is {f} {g} a b c d e h =

@@ -13,6 +13,7 @@ use Rattle.meaning.specs.Queries.{Query, queryAt}
 use Rattle.meaning.specs.Running.{Env, eval}
 use Rattle.meaning.proofs.Forests.{words-determine}
 use Rattle.words.specs.Tables.{codeOf}
+use Rattle.words.proofs.Rows.{stored-length}
 use Rattle.spans.specs.declared.Span.{Span}
 use Rattle.spans.specs.Shows.{bound, part, Shows}
 use Rattle.spans.proofs.Binding.{shows-bind, shows-below}
@@ -24,7 +25,6 @@ use Rattle.running.proofs.Given.{Behind, begins-on, top-same}
 use Rattle.running.proofs.Leaving.{left-done, element-is, pair-is, let-is, for-is, pair-not, let-not, for-not, when-is}
 use Rattle.running.proofs.Wholes.{behind-part, behind-held, among-held, source-held}
 use Rattle.running.proofs.Rounds.{turn-behind, turn-stops, tree-is, rounds-fit, rounds-long}
-use Rattle.running.proofs.Frames.{stored-length}
 
 -- by what a frame keeps
 pub half-first : {n : ℕ} (A : Type 0) (B : ℕ → Type 0) → n ≡ 0 → Half n A B → A

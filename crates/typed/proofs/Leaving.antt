@@ -1,16 +1,16 @@
 -- What is left after the walk, by its answer; and reading with typing after it is `typeJob`.
 -- Assumes nothing.
 use mathlib.Core.Path.{_≡_, refl, ap, sym, _∙_, subst}
-use mathlib.Core.List.{List}
-use Prim.Native.Nat.{ℕ}
+use mathlib.Core.List.{List, _++_}
+use Prim.Native.Nat.{ℕ, _*_}
 use native.Mathlib.Omega.{arith}
-use lib.ListN.{length}
-use Rattle.meaning.specs.Base.{Out, ok, refused, zeros, typeCapacity, capsOf}
+use lib.ListN.{length, drop}
+use Rattle.meaning.specs.Base.{Out, ok, refused, zeros, typeCapacity, capsOf, codeWidth}
 use Rattle.meaning.specs.Records.{Tables}
 use Rattle.meaning.specs.Checks.{readJob}
 use Rattle.meaning.specs.Typing as Typing
 use Rattle.meaning.specs.Typing.{State, typedAs, root, typeOf, typeTables, typeJob, readTypes, readCode}
-use Rattle.words.proofs.Tables.{table-length}
+use Rattle.words.proofs.Tables.{table-length, code-cleared}
 use Rattle.reading.specs.declared.Given.{Given}
 use Rattle.reading.specs.Says.{Held}
 use Rattle.reading.proofs.Leaving.{Finished}
@@ -39,8 +39,8 @@ module _ {us query : List ℕ} {nodes : ℕ} {g : Given} {made : Made} where
       (record { leaves = λ t whole given nodes-are code. record { answer = rw (table-length us n, given, nodes-are); types = whole .is; code = code } })
 
   -- IT WAS REFUSED: both are cleared
-  pub cleared-settled : {n place : ℕ} {r : Typed} {u w : List ℕ} → made ≡ Made.Refused n place → r ≡ typedOf (refused n place) → u ≡ zeros (length us) → w ≡ zeros (length query) → Settled us query nodes g made r u w
-  cleared-settled q a t c = rw q (record { leaves = λ _ _ _ _ _. record { answer = a; types = t; code = c } })
+  pub cleared-settled : {n place : ℕ} {r : Typed} {u w : List ℕ} → made ≡ Made.Refused n place → r ≡ typedOf (refused n place) → u ≡ zeros (length us) → w ≡ zeros (codeWidth * nodes) ++ drop (codeWidth * nodes) query → Settled us query nodes g made r u w
+  cleared-settled q a t c = rw q (record { leaves = λ job _ _ nodes-are code. record { answer = a; types = t; code = code-cleared (length query) (job .code) nodes-are code refl c } })
 
 -- TYPING what is held: the walk, and what is left after it
 typed-as : (t : Tables) (o : Out (State × ℕ)) → typedBy t (tabled o) ≡ typedAs t o

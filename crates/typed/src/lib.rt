@@ -1,8 +1,8 @@
 // Typing a job: reading it, then the walk from the query's root, with 13 to 16 where they are met.
 ghost use mathlib.Core.Path.{_≡_};
-ghost use Prim.Native.Nat.{_≤_};
+ghost use Prim.Native.Nat.{_*_, _≤_};
 ghost use lib.ListN.{length};
-ghost use Rattle.meaning.specs.Base.{refused, capsOf};
+ghost use Rattle.meaning.specs.Base.{refused, capsOf, codeWidth};
 ghost use Rattle.meaning.specs.Typing.{typeJob};
 ghost use Rattle.typed.specs.Says.{typedOf, Left, Ready, Grows, fromRoot, Settled, Answers};
 use grow::Made;
@@ -36,8 +36,9 @@ fn refusal(number: u16, place: usize) -> Typed
     Typed { answer, given }
 }
 
-// The answer after the walk: the tables stay, or both are cleared.
+// The answer after the walk: the tables stay, or what was read is cleared, and the type table as a whole: a walk that stops may have filled it.
 fn settle(types: &mut [u16], query: &mut [u16], nodes: usize, given: Given, made: Made) -> Typed
+    requires { ⌜ codeWidth * nodes ≤ length (now query) ⌝ }
     ensures { λ r. ⌜ Settled (now (types .entry)) (now (query .entry)) nodes given made r (now (types .exit)) (now (query .exit)) ⌝ }
 {
     match made {
@@ -51,7 +52,7 @@ fn settle(types: &mut [u16], query: &mut [u16], nodes: usize, given: Given, made
         }
         Made::Refused { number, place } => {
             words::clear(types);
-            words::clear(query);
+            words::clear_nodes(query, nodes);
             refusal(number, place)
         }
     }

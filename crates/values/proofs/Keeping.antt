@@ -5,14 +5,14 @@ use mathlib.Core.List.{List, [], _∷_, _++_, append-assoc, append-nil}
 use mathlib.Core.Option.{none, some}
 use Prim.Native.Nat.{ℕ, _+_, _*_, _≤_, _<_}
 use native.Mathlib.Omega.{arith}
-use lib.ListN.{length, getD, length-append, List·getD-append}
-use lib.Seq.{getD-append-seam}
+use lib.ListN.{length, getD, take, drop, length-append, List·getD-append}
+use lib.Seq.{getD-append-seam, take-at}
 use borrow.Author.Tests.{le-leb, lt-leb}
-use Rattle.meaning.specs.Base.{padded, forestWidth}
+use Rattle.meaning.specs.Base.{forestWidth}
 use Rattle.words.specs.Tables.{stored}
 use Rattle.words.specs.declared.Found.{Found}
 use Rattle.words.specs.declared.Found.the-variants as Found
-use Rattle.words.proofs.Rows.{stored-behind}
+use Rattle.words.proofs.Rows.{stored-length}
 use Rattle.values.specs.declared.Line.{Line}
 use Rattle.values.specs.Says.{wordsOf, overfull, Keeping, Adds}
 
@@ -23,6 +23,13 @@ overfull-none room ps h = simp (overfull, le-leb (length ps) room h) refl
 pub overfull-some : (room : ℕ) (ps : List ℕ) → room < length ps → overfull room ps ≡ some (getD ps room 0)
 unfolding overfull
 overfull-some room ps h = simp (overfull, lt-leb (length ps) room h) refl
+
+-- words stored behind the first
+stored-front : (w ws xs : List ℕ) → take (length ws) w ≡ ws → take (length (ws ++ xs)) (stored w (length ws) xs) ≡ ws ++ xs
+unfolding stored
+stored-front w ws xs e =
+    ap (take (length (ws ++ xs))) (ap (λ (y : List ℕ). y ++ (xs ++ drop (length ws + length xs) w)) e ∙ sym (append-assoc ws xs (drop (length ws + length xs) w)))
+    ∙ take-at (ws ++ xs) (drop (length ws + length xs) w) (length (ws ++ xs)) refl
 
 -- NO ENTRY, and those of two parts
 pub adds-none : {room tw count : ℕ} {w : List ℕ} {full : Found} → Adds room tw count w full w full [] []
@@ -51,10 +58,10 @@ module _ (i : Line) (at : ℕ) {room tw e : ℕ} {w : List ℕ} (long : forestWi
     one-kept {u} h q =
         record {
           even = even-more;
-          table = λ _.
-              let t : w ≡ padded tw ws = k .table (omega arith) in
+          long = ap length q ∙ stored-length w (wordsOf i) (forestWidth * e) (omega (arith, k .long)) ∙ k .long;
+          front = λ _.
               let z : forestWidth * e ≡ length ws = omega (arith, k .even) in
-              q ∙ rw (z, t) (stored-behind tw ws (wordsOf i) (omega (arith, k .even)));
+              ap (take (length (ws ++ wordsOf i))) (q ∙ ap (λ (n : ℕ). stored w n (wordsOf i)) z) ∙ stored-front w ws (wordsOf i) (k .front (omega arith));
           over = k .over ∙ overfull-none room ps (omega arith) ∙ sym (overfull-none room (ps ++ (at ∷ [])) (omega (arith, more)));
         }
 
@@ -63,7 +70,8 @@ module _ (i : Line) (at : ℕ) {room tw e : ℕ} {w : List ℕ} (long : forestWi
         let z : room ≡ length ps = omega arith in
         record {
           even = even-more;
-          table = λ low. absurd (omega (arith, more));
+          long = k .long;
+          front = λ low. absurd (omega (arith, more));
           over = sym (overfull-some room (ps ++ (at ∷ [])) (omega (arith, more)) ∙ ap (λ (j : ℕ). some (getD (ps ++ (at ∷ [])) j 0)) z ∙ ap some (getD-append-seam ps at [] 0));
         }
 
@@ -71,7 +79,8 @@ module _ (i : Line) (at : ℕ) {room tw e : ℕ} {w : List ℕ} (long : forestWi
     over-still h =
         record {
           even = even-more;
-          table = λ low. absurd (omega (arith, more));
+          long = k .long;
+          front = λ low. absurd (omega (arith, more));
           over = k .over ∙ overfull-some room ps (omega arith) ∙ ap some (sym (List·getD-append ps (at ∷ []) 0 room (omega arith))) ∙ sym (overfull-some room (ps ++ (at ∷ [])) (omega (arith, more)));
         }
 

@@ -123,7 +123,7 @@ scan-starts {s} {vars} {declared} {room} {stack} {ends} {work} b =
       count = refl;
       reads = sym (bind-ok (readValues (varsOf vars declared) s 0));
       odds = refl;
-      keeping = record { even = refl; table = λ _. b .clear ∙ ap zeros (sym (sub-zero (length work))); over = sym (overfull-none room [] (omega arith)) };
+      keeping = record { even = refl; long = refl; front = λ _. refl; over = sym (overfull-none room [] (omega arith)) };
       ends-are = λ _. b .sixteen;
     }
   where

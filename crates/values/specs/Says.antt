@@ -6,7 +6,7 @@ use mathlib.Core.List.{List, [], _∷_, _++_}
 use mathlib.Core.Option.{Option, none, some}
 use Prim.Native.Nat.{ℕ, _+_, _*_, _≤_, _<_}
 use lib.Dec.{leb, eqb}
-use lib.ListN.{length, getD}
+use lib.ListN.{length, getD, take}
 use Rattle.meaning.specs.Base.{Out, ok, refused, _>>=_, require, refuseAt, zeros, padded, lent, forestWidth}
 use Rattle.meaning.specs.Kinds.{forest·text, forest·label, value·variable}
 use Rattle.meaning.specs.Forests.{size, trees, forestWords}
@@ -87,10 +87,12 @@ wordsOf x = x .kind ∷ x .a ∷ x .b ∷ []
 unfoldable pub overfull : ℕ → List ℕ → Option ℕ
 overfull room ps = elim (leb (length ps) room) [ true ↦ none | false ↦ some (getD ps room 0) ]
 
--- a work table of tw words with room for so many entries: entries of these words, whose records stand at these places, have been read
+-- a work table of tw words with room for so many entries: entries of these words, whose records stand at these places, have been read, and stand at its
+-- front
 pub record Keeping (room tw : ℕ) (ws ps w : List ℕ) (full : Found) : Type 0 where
   pub even : length ws ≡ forestWidth * length ps
-  pub table : length ps ≤ room → w ≡ padded tw ws
+  pub long : length w ≡ tw
+  pub front : length ps ≤ room → take (length ws) w ≡ ws
   pub over : found full ≡ overfull room ps
 
 -- behind so many entries come those of these words and places
@@ -129,13 +131,12 @@ abbrev pub earlierOf : Option ℕ → Option ℕ → Option ℕ
 earlierOf none o = o
 earlierOf (some place) o = some place
 
--- what is asked before the first: room for the variables, a stack that is deep enough, ends of full length, a work table that is clear
+-- what is asked before the first: room for the variables, a stack that is deep enough, ends of full length, a work table that is long enough
 pub record Blank (s vars : List ℕ) (declared : ℕ) (stack ends work : List ℕ) (room : ℕ) : Type 0 where
   pub variables : 3 * declared ≤ length vars
   pub few : declared ≤ 16
   pub deep : Deep s (length stack)
   pub sixteen : ends ≡ zeros 16
-  pub clear : work ≡ zeros (length work)
   pub long : forestWidth * room ≤ length work
   pub most : room ≤ 8192
 
@@ -152,6 +153,10 @@ inTurn n a m b k c = refuseAt n a >>= λ _. refuseAt m b >>= λ _. refuseAt k c
 abbrev pub verdict : Verdict → Out (Unit {0})
 verdict Verdict.Passed = ok tt
 verdict (Verdict.Refused n place) = refused n place
+
+-- where nothing was wrong and nothing without room, the entries are in the table
+pub record Fitting (c : Scan) (w : List ℕ) : Type 0 where
+  pub low : found (c .wrong) ≡ none → found (c .full) ≡ none → forestWidth * c .entries ≤ length w
 
 -- what is left of what was found
 pub record Settles (tw : ℕ) (c : Scan) (ends w : List ℕ) (r : Loaded) (u : List ℕ) : Type 0 where

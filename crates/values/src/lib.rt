@@ -8,7 +8,7 @@ ghost use Rattle.meaning.specs.Values.{valueAt, readForest, readValue, readValu
 ghost use Rattle.words.specs.Tables.{varsOf};
 ghost use Rattle.words.specs.Says.{found};
 ghost use Rattle.records.specs.Says.{itemOf, Filled};
-ghost use Rattle.values.specs.Says.{Stands, fitted, isEntry, entryAt, headAt, wordsOf, Adds, Reads, Single, Odd, Gives, placeIf, earlierOf, Deep, Blank, Scans, verdict, inTurn, Settles, Left};
+ghost use Rattle.values.specs.Says.{Stands, fitted, isEntry, entryAt, headAt, wordsOf, Adds, Reads, Single, Odd, Gives, placeIf, earlierOf, Deep, Blank, Scans, verdict, inTurn, Fitting, Settles, Left};
 use records::Item;
 use records::Rec;
 use words::Found;
@@ -291,7 +291,7 @@ pub struct Scan {
     pub entries: usize,
 }
 
-// Reads the values of the declared variables into a work table that is clear, and the ends of their forests into `ends`.
+// Reads the values of the declared variables into the front of a work table, and the ends of their forests into `ends`.
 fn read_values(
     s: &[u8],
     vars: &[u16],
@@ -378,8 +378,9 @@ pub struct Loaded {
     pub ends: [u16; 16],
 }
 
-// The answer after all values are read: the work table stays, or it is cleared.
+// The answer after all values are read: the work table is cleared behind them, or all of it.
 fn settle(scan: Scan, ends: [u16; 16], work: &mut [u16]) -> Loaded
+    requires { ⌜ Fitting scan (now work) ⌝ }
     ensures { λ r. ⌜ Settles (length (now (work .entry))) scan ends (now (work .entry)) r (now (work .exit)) ⌝ }
 {
     let wrong = scan.wrong;
@@ -387,6 +388,7 @@ fn settle(scan: Scan, ends: [u16; 16], work: &mut [u16]) -> Loaded
     let full = scan.full;
     match first_of(18, wrong, 19, odd, 20, full) {
         Verdict::Passed => {
+            words::clear_behind(work, scan.entries);
             let answer = Answer::Values {
                 entries: scan.entries,
             };
@@ -406,7 +408,6 @@ fn load_with(s: &[u8], vars: &[u16], declared: usize, stack: &mut [u16], work: &
     requires { ⌜ 3 * declared ≤ length (now vars) ⌝ ∗ ⌜ declared ≤ 16 ⌝ ∗ ⌜ Deep (now s) (length (now stack)) ⌝ }
     ensures { λ r. ⌜ Left (length (now (work .entry))) r (now (work .exit)) (loadValues (workCapacity (length (now (work .entry)))) (varsOf (now (vars .entry)) declared) (now (s .entry))) ⌝ }
 {
-    words::clear(work);
     let room = words::work_room(work);
     let mut ends = [0u16; 16];
     let scan = read_values(s, vars, declared, stack, &mut ends, work, room);

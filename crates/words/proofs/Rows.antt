@@ -6,8 +6,8 @@ use mathlib.Core.List.{List, [], _∷_, _++_, append-assoc, append-nil}
 use Prim.Native.Nat.{ℕ, zero, suc, _+_, _*_, _-_, _≤_, _<_}
 use native.Mathlib.Omega.{arith}
 use native.Mathlib.Nat.{mul-suc, mul-le-mul-left}
-use lib.ListN.{length, getD, drop, replicate, length-append, length-replicate, replicate-append-replicate, List·getD-append}
-use lib.Seq.{getD-append-add, take-at, drop-at, drop-append-add}
+use lib.ListN.{length, getD, take, drop, replicate, length-append, length-drop, length-replicate, replicate-append-replicate, List·getD-append}
+use lib.Seq.{getD-append-add, length-take-le, take-at, drop-at, drop-append-add}
 use Rattle.meaning.specs.Base.{concatMap, zeros, padded}
 use Rattle.words.specs.Tables.{stored}
 
@@ -20,6 +20,13 @@ unfolding zeros
 drop-zeros zero n = ap (λ (m : ℕ). replicate m 0) {x = n} {y = n - 0} (omega arith)
 drop-zeros (suc k) zero = ap (λ (m : ℕ). replicate m 0) {x = 0} {y = 0 - suc k} (omega arith)
 drop-zeros (suc k) (suc n) = drop-zeros k n ∙ ap (λ (m : ℕ). replicate m 0) {x = n - k} {y = suc n - suc k} (omega arith)
+
+-- what is stored where there is room for it leaves the length
+pub stored-length : (t ws : List ℕ) (at : ℕ) → at + length ws ≤ length t → length (stored t at ws) ≡ length t
+unfolding stored
+stored-length t ws at h =
+    length-append (take at t) (ws ++ drop (at + length ws) t)
+    ∙ omega (arith, length-take-le at t (omega arith), length-append ws (drop (at + length ws) t), length-drop (at + length ws) t)
 
 -- what is stored behind the words that a lent list holds stands behind them
 pub stored-behind : (n : ℕ) (ws vs : List ℕ) → length ws + length vs ≤ n → stored (padded n ws) (length ws) vs ≡ padded n (ws ++ vs)

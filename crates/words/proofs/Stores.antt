@@ -41,6 +41,14 @@ cleared-all d n t h l = h .2 ∙ rw (drop-of-length-le d l, append-nil, le-antis
 pub cleared-front : (d : List ℕ) (n : ℕ) {t : List ℕ} → n ≤ length d → t ≡ zeros (length (take n d)) → t ++ drop n d ≡ zeros n ++ drop n d
 cleared-front d n l e = ap (λ (x : List ℕ). x ++ drop n d) (e ∙ ap zeros (length-take-le n d l))
 
+-- and one at the back
+pub cleared-back : (d : List ℕ) (n k : ℕ) {t : List ℕ} → n ≤ length d → k ≡ length d - n → t ≡ zeros (length (take k (drop n d))) → take n d ++ (t ++ drop k (drop n d)) ≡ padded (length d) (take n d)
+cleared-back d n k {t} l q e =
+    let m : length (take k (drop n d)) ≡ length d - length (take n d) = length-take-le k (drop n d) (omega (arith, length-drop n d)) ∙ omega (arith, length-take-le n d l) in
+    let short : length (drop n d) ≤ k = omega (arith, length-drop n d) in
+    ap (λ (x : List ℕ). take n d ++ (t ++ x)) (drop-of-length-le (drop n d) short)
+    ∙ ap (λ (x : List ℕ). take n d ++ x) (append-nil t ∙ e ∙ ap zeros m)
+
 -- a list that is cleared from a place on, up to another
 pub record Blanked (d : List ℕ) (from i : ℕ) (t : List ℕ) : Type 0 where
   pub low : from ≤ i

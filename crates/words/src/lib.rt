@@ -158,6 +158,15 @@ pub fn clear_nodes(t: &mut [u16], n: usize)
     clear(&mut t[..end]);
 }
 
+// Zeros behind the first entries of a table.
+pub fn clear_behind(t: &mut [u16], n: usize)
+    requires { ⌜ typeWidth * n ≤ length (now t) ⌝ }
+    ensures { λ _. ⌜ now (t .exit) ≡ padded (length (now (t .entry))) (take (typeWidth * n) (now (t .entry))) ⌝ }
+{
+    let end = 3 * n;
+    clear(&mut t[end..]);
+}
+
 // Zeros in a buffer from an offset on.
 pub fn clear_bytes(t: &mut [u8], from: usize)
     ensures { λ _. ⌜ now (t .exit) ≡ padded (length (now (t .entry))) (take from (now (t .entry))) ⌝ }

@@ -1,6 +1,6 @@
 -- `answered::answer_job` meets its contract: what typing refuses is refused, and what it types is written. Assumes nothing.
 use Rattle.words.proofs.Stores.{blanked-whole}
-use Rattle.answered.proofs.Leaving.{job-ready, job-settled, job-stopped}
+use Rattle.answered.proofs.Leaving.{job-ready, job-long, job-settled, job-stopped}
 use borrow.Author.Needs.{needs}
 use Rattle.answered.proofs.answer_job.Statement.{statement}
 use Rattle.answered.proofs.answer_job.Tie as tie
@@ -23,7 +23,8 @@ enum-known-told-2 c = search needs
 settle-requires : tie.Need-settle-requires
 settle-requires c κs =
     let typed = (c .before .before .before .before .before .before .before .before .before .before .before) .type-job in
-    job-ready _ (typed .ensures) ((c .before .before .before .before) .told2 .given .1)
+    let told = (c .before .before .before .before) .told2 in
+    (job-ready _ (typed .ensures) (told .given .1), job-long _ (typed .ensures) (told .given .1))
 
 same-length : tie.Need-same-length
 same-length c = search needs

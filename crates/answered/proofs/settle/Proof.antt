@@ -16,11 +16,13 @@ enum-known-length c = search needs
 enum-known-place : tie.Need-enum-known-place
 enum-known-place c = search needs
 
-clear-requires : tie.Need-clear-requires
-clear-requires c κs = search needs
+clear-entries-requires : tie.Need-clear-entries-requires
+clear-entries-requires c κs =
+    (c .before .before .before .before .before .before .before .before .before .before .before .before .before .before) .pre .0 .types-inside
 
-clear-requires-2 : tie.Need-clear-requires-2
-clear-requires-2 c κs = search needs
+clear-nodes-requires : tie.Need-clear-nodes-requires
+clear-nodes-requires c κs =
+    (c .before .before .before .before .before .before .before .before .before .before .before .before .before .before .before .before .before .before) .pre .1
 
 refusal-requires : tie.Need-refusal-requires
 refusal-requires c κs = search needs
@@ -46,7 +48,7 @@ same-length-5 c = search needs
 
 returns-2 : tie.Need-returns-2
 returns-2 c =
-    short-settled _ _ _ _ _ _ _ _ ((c .before .before .before .before .before .before .before .before .before .before .before .before .before .before) .write .ensures) ((c .before .before .before .before .before .before .before .before .before .before) .place .given .1) (c .refusal .ensures) ((c .before .before .before .before .before .before .before) .clear .ensures) ((c .before .before .before) .clear2 .ensures)
+    short-settled _ _ _ _ _ _ _ _ ((c .before .before .before .before .before .before .before .before .before .before .before .before .before .before) .write .ensures) ((c .before .before .before .before .before .before .before .before .before .before) .place .given .1) (c .refusal .ensures) ((c .before .before .before .before .before .before .before) .clear-entries .ensures) ((c .before .before .before) .clear-nodes .ensures)
 
 pub settle-spec : {M : Type 1} → statement M
-settle-spec = tie.close (tie.spec slice-aggregate-write write-requires enum-known-length enum-known-place clear-requires clear-requires-2 refusal-requires same-length same-length-2 returns same-length-3 same-length-4 same-length-5 returns-2)
+settle-spec = tie.close (tie.spec slice-aggregate-write write-requires enum-known-length enum-known-place clear-entries-requires clear-nodes-requires refusal-requires same-length same-length-2 returns same-length-3 same-length-4 same-length-5 returns-2)

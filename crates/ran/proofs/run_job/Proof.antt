@@ -1,5 +1,5 @@
 -- `ran::run_job` meets its contract: what typing refuses is refused, and what it types is run. Assumes nothing.
-use Rattle.ran.proofs.Leaving.{job-ready, job-settled, job-stopped}
+use Rattle.ran.proofs.Leaving.{job-ready, job-long, job-settled, job-stopped}
 use borrow.Author.Needs.{needs}
 use Rattle.ran.proofs.run_job.Statement.{statement}
 use Rattle.ran.proofs.run_job.Tie as tie
@@ -21,7 +21,7 @@ enum-known-told-2 c = search needs
 
 run-typed-requires : tie.Need-run-typed-requires
 run-typed-requires c κs =
-    job-ready _ ((c .before .before .before .before .before .before .before .before .before .before .before) .type-job .ensures) ((c .before .before .before .before) .told2 .given .1)
+    (job-ready _ ((c .before .before .before .before .before .before .before .before .before .before .before) .type-job .ensures) ((c .before .before .before .before) .told2 .given .1), job-long _ ((c .before .before .before .before .before .before .before .before .before .before .before) .type-job .ensures) ((c .before .before .before .before) .told2 .given .1))
 
 same-length : tie.Need-same-length
 same-length c = search needs

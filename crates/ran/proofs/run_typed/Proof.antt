@@ -10,7 +10,7 @@ slice-aggregate-load c = search needs
 
 load-requires : tie.Need-load-requires
 load-requires c κs =
-    ((c .before .before .before .before .before .before .before) .pre .vars-inside, few-vars ((c .before .before .before .before .before .before .before) .pre))
+    ((c .before .before .before .before .before .before .before) .pre .0 .vars-inside, few-vars ((c .before .before .before .before .before .before .before) .pre .0))
 
 enum-known-told : tie.Need-enum-known-told
 enum-known-told c = search needs
@@ -26,7 +26,7 @@ slice-aggregate-evaluate c = search needs
 
 evaluate-requires : tie.Need-evaluate-requires
 evaluate-requires c κs =
-    ((c .before .before .before .before .before .before .before .before .before .before .before .before .before .before .before .before .before) .pre, load-begins _ _ ((c .before .before .before .before .before .before .before .before .before) .load .ensures) ((c .before .before .before .before) .told2 .given .1) ((c .before .before .before .before .before .before .before .before .before) .load .kept .1 .1 .1 .0))
+    ((c .before .before .before .before .before .before .before .before .before .before .before .before .before .before .before .before .before) .pre .0, load-begins _ _ ((c .before .before .before .before .before .before .before .before .before) .load .ensures) ((c .before .before .before .before) .told2 .given .1) ((c .before .before .before .before .before .before .before .before .before) .load .kept .1 .1 .1 .0))
 
 settle-requires : tie.Need-settle-requires
 settle-requires c κs = search needs

@@ -13,14 +13,15 @@ enum-known-made-2 c = search needs
 clear-requires : tie.Need-clear-requires
 clear-requires c κs = search needs
 
-clear-requires-2 : tie.Need-clear-requires-2
-clear-requires-2 c κs = search needs
+clear-nodes-requires : tie.Need-clear-nodes-requires
+clear-nodes-requires c κs = search needs
 
 refusal-requires : tie.Need-refusal-requires
 refusal-requires c κs = search needs
 
 returns : tie.Need-returns
-returns c = kept-settled (c .before .made .given .1)
+returns c =
+    kept-settled ((c .before) .made .given .1)
 
 same-length : tie.Need-same-length
 same-length c = search needs
@@ -30,21 +31,7 @@ same-length-2 c = search needs
 
 returns-2 : tie.Need-returns-2
 returns-2 c =
-    let number = c .before .before .before .before .before .before .before .before .before .before .made2 in
-    let clear = c .before .before .before .before .before .before .before .clear in
-    let clear2 = c .before .before .before .clear2 in
-    cleared-settled (number .given .1) (c .refusal .ensures) (clear .ensures) (clear2 .ensures)
+    cleared-settled ((c .before .before .before .before .before .before .before .before .before .before) .made2 .given .1) (c .refusal .ensures) ((c .before .before .before .before .before .before .before) .clear .ensures) ((c .before .before .before) .clear-nodes .ensures)
 
 pub settle-spec : {M : Type 1} → statement M
-settle-spec =
-    tie.close
-    (tie.spec
-    enum-known-made
-    enum-known-made-2
-    clear-requires
-    clear-requires-2
-    refusal-requires
-    returns
-    same-length
-    same-length-2
-    returns-2)
+settle-spec = tie.close (tie.spec enum-known-made enum-known-made-2 clear-requires clear-nodes-requires refusal-requires returns same-length same-length-2 returns-2)

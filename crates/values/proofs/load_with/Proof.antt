@@ -1,13 +1,9 @@
--- `values::load_with` meets its contract: cleared, read and settled. Assumes nothing.
-use lib.ListN.{length}
+-- `values::load_with` meets its contract: read and settled. Assumes nothing.
 use Rattle.meaning.specs.Base.{zeros}
-use Rattle.values.proofs.Settling.{blank, loads}
+use Rattle.values.proofs.Settling.{blank, fits, loads}
 use borrow.Author.Needs.{needs}
 use Rattle.values.proofs.load_with.Statement.{statement}
 use Rattle.values.proofs.load_with.Tie as tie
-
-clear-requires : tie.Need-clear-requires
-clear-requires c κs = search needs
 
 work-room-requires : tie.Need-work-room-requires
 work-room-requires c κs = search needs
@@ -18,13 +14,11 @@ slice-aggregate-read-values c = search needs
 read-values-requires : tie.Need-read-values-requires
 unfolding zeros
 read-values-requires c κs =
-    let work-room = c .before .before .before .work-room in
-    let clear = c .before .before .before .before .before .before .before .clear in
-    let start = c .before .before .before .before .before .before .before .before .before .before .before .before .before in
-    blank (length (start .args .work .now)) (clear .ensures) (work-room .ensures) (start .pre .0) (start .pre .1 .0) (start .pre .1 .1)
+    blank _ ((c .before .before .before) .work-room .ensures) ((c .before .before .before .before .before .before .before .before .before) .pre .0) ((c .before .before .before .before .before .before .before .before .before) .pre .1 .0) ((c .before .before .before .before .before .before .before .before .before) .pre .1 .1)
 
 settle-requires : tie.Need-settle-requires
-settle-requires c κs = search needs
+settle-requires c κs =
+    fits ((c .before .before .before .before .before .before .before .before .before .before .before .before .before .before .before .before) .args .work .now) ((c .before .before .before .before .before .before .before .before .before .before) .work-room .ensures) ((c .before .before .before .before .before .before) .read-values .ensures) ((c .before .before .before .before .before .before) .read-values .kept .1 .1 .1 .1 .1 .0)
 
 same-length : tie.Need-same-length
 same-length c = search needs
@@ -34,21 +28,7 @@ same-length-2 c = search needs
 
 returns : tie.Need-returns
 returns c =
-    let settle = c .before .before .settle in
-    let read-values = c .before .before .before .before .before .before .before .before .before .read-values in
-    let work-room = c .before .before .before .before .before .before .before .before .before .before .before .before .before .work-room in
-    let clear = c .before .before .before .before .before .before .before .before .before .before .before .before .before .before .before .before .before .clear in
-    loads _ (clear .ensures) (work-room .ensures) _ _ (read-values .ensures) (read-values .kept .1 .1 .1 .1 .1 .0) (settle .ensures)
+    loads ((c .before .before .before .before .before .before .before .before .before .before .before .before .before .before .before .before .before .before .before) .args .work .now) ((c .before .before .before .before .before .before .before .before .before .before .before .before .before) .work-room .ensures) _ _ ((c .before .before .before .before .before .before .before .before .before) .read-values .ensures) ((c .before .before .before .before .before .before .before .before .before) .read-values .kept .1 .1 .1 .1 .1 .0) ((c .before .before) .settle .ensures)
 
 pub load-with-spec : {M : Type 1} → statement M
-load-with-spec =
-    tie.close
-    (tie.spec
-    clear-requires
-    work-room-requires
-    slice-aggregate-read-values
-    read-values-requires
-    settle-requires
-    same-length
-    same-length-2
-    returns)
+load-with-spec = tie.close (tie.spec work-room-requires slice-aggregate-read-values read-values-requires settle-requires same-length same-length-2 returns)

@@ -1,6 +1,7 @@
--- `values::settle` meets its contract: there is nothing to refuse and the work table stays, or it is cleared. Assumes nothing.
+-- `values::settle` meets its contract: there is nothing to refuse and the work table is cleared behind the values, or all of it is. Assumes nothing.
+use mathlib.Core.Path.{refl}
 use Rattle.meaning.specs.Base.{zeros}
-use Rattle.values.proofs.Settling.{stays, goes}
+use Rattle.values.proofs.Settling.{passed-low, stays, goes}
 use borrow.Author.Needs.{needs}
 use Rattle.values.proofs.settle.Statement.{statement}
 use Rattle.values.proofs.settle.Tie as tie
@@ -11,36 +12,30 @@ first-of-requires c κs = search needs
 enum-told : tie.Need-enum-told
 enum-told c = search needs
 
+clear-behind-requires : tie.Need-clear-behind-requires
+clear-behind-requires c κs =
+    passed-low _ ((c .before .before .before) .first-of .ensures) ((c .before) .enum-told .given .1) ((c .before .before .before .before .before) .pre)
+
 enum-known-number : tie.Need-enum-known-number
 enum-known-number c = search needs
 
 clear-requires : tie.Need-clear-requires
 clear-requires c κs = search needs
 
-returns : tie.Need-returns
-returns c =
-    let first-of = c .before .before .first-of in
-    stays (first-of .ensures) (c .enum-told .given .1)
-
 same-length : tie.Need-same-length
 same-length c = search needs
+
+returns : tie.Need-returns
+returns c =
+    stays _ ((c .before .before .before .before .before .before) .first-of .ensures) ((c .before .before .before .before) .enum-told .given .1) refl ((c .before .before) .clear-behind .ensures)
+
+same-length-2 : tie.Need-same-length-2
+same-length-2 c = search needs
 
 returns-2 : tie.Need-returns-2
 unfolding zeros
 returns-2 c =
-    let clear = c .before .before .clear in
-    let number = c .before .before .before .before .before .number in
-    let first-of = c .before .before .before .before .before .before .before .first-of in
-    goes (first-of .ensures) (number .given .1) (clear .ensures)
+    goes _ ((c .before .before .before .before .before .before .before) .first-of .ensures) ((c .before .before .before .before .before) .number .given .1) ((c .before .before) .clear .ensures)
 
 pub settle-spec : {M : Type 1} → statement M
-settle-spec =
-    tie.close
-    (tie.spec
-    first-of-requires
-    enum-told
-    enum-known-number
-    clear-requires
-    returns
-    same-length
-    returns-2)
+settle-spec = tie.close (tie.spec first-of-requires enum-told clear-behind-requires enum-known-number clear-requires same-length returns same-length-2 returns-2)
