@@ -62,12 +62,12 @@ module _ (D : Defs) (T : Table) (a : ℕ) where
 each_select : (P : Forest → Type 0) (w : ℕ) (f : Forest) → Each P f → Each (λ t. P t × (passes w (top_of t) ≡ true)) (select w f)
 unfolding Each select top_of
 each_select P w end h = tt
-each_select P w (leaf t r) h = each_join _ _ (select w r) (go (passes w text) refl) (each_select P w r h.1)
+each_select P w (leaf t r) h = each_join (λ t. P t × (passes w (top_of t) ≡ true)) _ (select w r) (go (passes w text) refl) (each_select P w r h.1)
   where
     go : (b : Bool) → passes w text ≡ b → Each (λ t. P t × (passes w (top_of t) ≡ true)) (keep b (leaf t end))
     go true p = ((h.0, p), tt)
     go false p = tt
-each_select P w (tree l i r) h = each_join _ _ (select w r) (go (passes w (label l)) refl) (each_select P w r h.1)
+each_select P w (tree l i r) h = each_join (λ t. P t × (passes w (top_of t) ≡ true)) _ (select w r) (go (passes w (label l)) refl) (each_select P w r h.1)
   where
     go : (b : Bool) → passes w (label l) ≡ b → Each (λ t. P t × (passes w (top_of t) ≡ true)) (keep b (tree l i end))
     go true p = ((h.0, p), tt)

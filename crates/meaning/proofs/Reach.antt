@@ -124,6 +124,7 @@ sub_mark m (x ∷ xs) = sub_trans (sub_set m x) (sub_mark (set m x true) xs)
 
 mark_marked : (m : List Bool) (xs : List ℕ) (x : ℕ) → In x xs → x < length m → Marked (mark m xs) x
 unfolding mark
+mark_marked m [] x h l = elim h [ ]
 mark_marked m (y ∷ ys) x first l = sub_marked y (sub_mark (set m y true) ys) (set_marked m y l)
 mark_marked m (y ∷ ys) x (later h) l = mark_marked (set m y true) ys x h (rw length-set l)
 

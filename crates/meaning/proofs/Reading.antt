@@ -297,7 +297,7 @@ record_reads {caps} {at} {t} file s no_value h =
     ends_bind (ends_require (in_order t section) 4 at (omega arith, omega arith, refl)) λ _ ordered.
     ends_bind (ends_require (has_room caps t section) 5 at (omega arith, omega arith, refl)) λ _ room.
     ends_bind (ends_require (all_fit (length t.types) t.code r.form.sorts r.fields) 6 at (omega arith, omega arith, refl)) λ _ fit.
-    ends_bind (ends_test (not (declared_again t section (field r 0))) 7 at (λ again. (omega arith, declares file section (is_some (find (field r 0) t.vars)) whole.own_val (not-false _ again), refl))) λ _ new.
+    ends_bind (ends_test (not (declared_again t section (field r 0))) 7 at (λ again. (omega arith, declares file section (is_some (find (field r 0) t.vars)) whole.own (not-false _ again), refl))) λ _ new.
     gives (kept r whole ordered room fit new, omega (arith, whole.next))
   where
     kept : (r : Record) → Whole file s at r → in_order t r.form.section ≡ true → has_room caps t r.form.section ≡ true
@@ -312,7 +312,7 @@ record_reads {caps} {at} {t} file s no_value h =
           new = not-true _ new;
         }) in
         rw (whole.next, whole.fields)
-        (put_reads h s (at + 4) (length_of r.form) file r.form.section no_value whole.own_val (form_row r.kind whole.known) (form_length r.kind whole.known).1 passed)
+        (put_reads h s (at + 4) (length_of r.form) file r.form.section no_value whole.own (form_row r.kind whole.known) (form_length r.kind whole.known).1 passed)
 
 -- A FILE: what was read to its end
 pub record Through (caps : Caps) (s : List ℕ) (t : Tables) : Type 0 where

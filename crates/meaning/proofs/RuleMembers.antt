@@ -180,8 +180,8 @@ module _ (room n : ℕ) (D : Defs) where
   prime_each (union s t) T h =
       ends_after (prime_each s T h.0) λ U a x. ends_after (prime_each t U (leaves_grows t x.grows h.1)) λ W b y.
       ends_map (append_there room n _ _) λ p z. prime_two T s t _ (U, a) (W, b) p (λ P. all_union D T (Each P)) x y z
-  prime_each (star s) T h = ends_map (prime_each s T h) λ p x. record { grows = x.grows; unions = x.unions; each = all_star D T _ (each_join _) tt x.each }
-  prime_each (plus s) T h = ends_map (prime_each s T h) λ p x. record { grows = x.grows; unions = x.unions; each = all_plus D T _ (each_join _) x.each }
+  prime_each (star s) T h = ends_map (prime_each s T h) λ p x. record { grows = x.grows; unions = x.unions; each = all_star D T _ (each_join (Has D p.0 p.1)) tt x.each }
+  prime_each (plus s) T h = ends_map (prime_each s T h) λ p x. record { grows = x.grows; unions = x.unions; each = all_plus D T _ (each_join (Has D p.0 p.1)) x.each }
   prime_each (opt s) T h = ends_map (prime_each s T h) λ p x. record { grows = x.grows; unions = x.unions; each = all_opt D T _ tt x.each }
   prime_each (name s) T h = ends_map (prime_each s T h) λ p x. record { grows = x.grows; unions = x.unions; each = all_name D T _ x.each }
 
