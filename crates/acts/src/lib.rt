@@ -1,4 +1,6 @@
 // What the typing rules prime, content and filter do at one entry, by its words. The first `used` of `defs` are the definitions.
+#![tactic(auto)]
+
 ghost use Rattle.std.specs.Prelude.{◌≡◌, cond, ◌<◌, length, take};
 ghost use Rattle.meaning.specs.Types.{entry_of, at};
 ghost use Rattle.words.specs.Tables.{table_of};

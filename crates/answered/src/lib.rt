@@ -1,4 +1,6 @@
 // Answering a job: typing it, then its answer file into a lent buffer, or 17.
+#![tactic(auto)]
+
 ghost use Rattle.std.specs.Prelude.{◌≡◌, ◌*◌, ◌≤◌, length};
 ghost use Rattle.meaning.specs.Base.{refused, caps_of, code_width};
 ghost use Rattle.meaning.specs.Answers.{answer_job};

@@ -1,4 +1,6 @@
 // The answer file, written into a lent buffer from the words of a type table, the definitions and a result: 17, or its bytes.
+#![tactic(auto)]
+
 ghost use Rattle.std.specs.Prelude.{◌≡◌, [], ◌∷◌, length, take};
 ghost use Prim.Native.Nat.{◌+◌, ◌*◌, ◌≤◌};
 ghost use Rattle.meaning.specs.Base.{bytes_of};

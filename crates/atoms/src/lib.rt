@@ -1,5 +1,7 @@
 // Refusal 11: a tree variable's type has other than unions of atoms. One pass upward marks the entries that have nothing else, so that a union that is
 // shared many times over costs no more than one; a second pass looks for the first variable.
+#![tactic(auto)]
+
 ghost use Rattle.std.specs.Prelude.{◌≡◌, ◌&&◌, ℕ, ◌*◌, ◌≤◌, ◌<◌, eqb, length, get_or};
 ghost use Rattle.meaning.specs.Base.{At};
 ghost use Rattle.meaning.specs.Kinds.{type·union};

@@ -1,4 +1,6 @@
 // Reading an answer file back: 1 to 6 record by record, then 8 if record 80 is missing, then 9 and 10.
+#![tactic(auto)]
+
 ghost use Rattle.std.specs.Prelude.{◌≡◌, length};
 ghost use Rattle.meaning.specs.Base.{refused, caps_of};
 ghost use Rattle.meaning.specs.Answers.{read_answer};

@@ -1,4 +1,6 @@
 // The checks of a whole job, 8 to 12, tried in that order.
+#![tactic(auto)]
+
 ghost use Rattle.std.specs.Prelude.{◌≡◌, ◌*◌, ◌≤◌, length};
 ghost use Rattle.meaning.specs.Types.{Defs};
 ghost use Rattle.meaning.specs.Records.{Tables};

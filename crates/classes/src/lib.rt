@@ -1,5 +1,7 @@
 // The class of every type entry, in an array of one word for each: 1, 2 for ?, 3 for +, 4 for *, and 0 where it is not known yet. Each entry's class is
 // computed once, after those of its parts; an entry that is appended gets its class from those of its parts.
+#![tactic(auto)]
+
 ghost use Rattle.std.specs.Prelude.{◌≡◌, true, false, [], ◌∷◌, ◌++◌, ◌<◌, ◌≤◌, length, get_or, take};
 ghost use Rattle.std.proofs.Math.Option.{none};
 ghost use Rattle.meaning.specs.Types.{Table, Defs, entry_of, name_of, at};

@@ -1,4 +1,6 @@
 // A condition of the text form: `true`, `false`, `$1 = $2`, `empty $1`, `not condition`, `(condition or condition)`. One loop over a stack of what is open, at most 100.
+#![tactic(auto)]
+
 ghost use Rattle.std.specs.Prelude.{suc, ◌≤◌, ◌<◌, length};
 ghost use Rattle.meaning.specs.Records.{node};
 ghost use Rattle.conditions.specs.Says.{Conditions};

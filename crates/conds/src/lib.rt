@@ -1,5 +1,7 @@
 // The parts of the typing walk that look at the scope alone: a variable's entry, refusals 13, 14 and 15, and the variables of a condition. A scope comes
 // by value and is handed back.
+#![tactic(auto)]
+
 ghost use Rattle.std.specs.Prelude.{◌≡◌, not, ℕ, ◌+◌, ◌*◌, ◌≤◌, ◌<◌, length};
 ghost use Rattle.meaning.specs.Base.{ok, given, require, is_some, code_width};
 ghost use Rattle.meaning.specs.Base as Base;

@@ -1,5 +1,7 @@
 // Copies of whole trees at the front of a lent part: all of a stretch of a table, those of its trees that pass a test word, those among all below them,
 // and those inside them. One tree is one stretch of the table, and is handed on as such.
+#![tactic(auto)]
+
 ghost use Rattle.std.specs.Prelude.{◌≡◌, false, ◌+◌, ◌*◌, ◌≤◌, ◌<◌, length};
 ghost use Rattle.meaning.specs.Base.{zeros};
 ghost use Rattle.meaning.specs.Forests.{Forest, forest_words, join, select};

@@ -1,4 +1,6 @@
 // The typing rule of dos: the star of the union of the atoms that an entry reaches and that pass a test.
+#![tactic(auto)]
+
 ghost use Rattle.std.specs.Prelude.{◌≡◌, ◌∷◌, ◌+◌, ◌*◌, ◌-◌, ◌≤◌, ◌<◌, length};
 ghost use Rattle.meaning.specs.Base.{type_capacity, kept_from};
 ghost use Rattle.meaning.specs.Types.{Defs};

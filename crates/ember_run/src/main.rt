@@ -3,6 +3,8 @@
 // standard error, and then nothing is printed: a file that cannot be read, a values file of more than 2 MiB, another number of arguments.
 // The tables have full capacity. Of the job it reads the first 43,520 bytes: with these tables running them is running the whole job, however long
 // (`first_bytes_suffice` in proofs/Whole).
+#![tactic(auto)]
+
 ghost use Rattle.std.specs.Prelude.{◌≡◌, ◌+◌, ◌≤◌, length};
 ghost use Rattle.io.specs.Counts.{IsPrefixLen};
 

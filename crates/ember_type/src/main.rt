@@ -1,6 +1,8 @@
 // The typing program: a job on standard input; it prints the number, kind, a and b of each entry, then the result; or only the refusal and its place.
 // The tables have full capacity. It reads the first 43,520 bytes: with these tables typing them is typing the whole job, however long
 // (`first_bytes_suffice` in proofs/Whole).
+#![tactic(auto)]
+
 ghost use Rattle.std.specs.Prelude.{◌≡◌, length};
 
 use libc::STDIN_FILENO;

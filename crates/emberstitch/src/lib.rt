@@ -1,5 +1,7 @@
 // The public operations. Each takes any bytes and tables of any length, asks nothing of its caller, and has one promise that fixes its answer and the
 // final contents of all that it is lent.
+#![tactic(auto)]
+
 ghost use Rattle.std.specs.Prelude.{◌≡◌, length};
 ghost use Rattle.emberstitch.specs.Promises.{ReadJob, TypeJob, AnswerJob, ReadAnswer, RunJob, ParseText, WriteText, Call, number_of, Small};
 

@@ -1,4 +1,6 @@
 // A type table that typing grows, an entry at a time, with the class of every entry beside it. Rules read entries by `read` and add them by `append`.
+#![tactic(auto)]
+
 ghost use Rattle.std.specs.Prelude.{◌≡◌, ◌*◌, ◌<◌, ◌≤◌, length};
 ghost use Rattle.meaning.specs.Base.{type_width, type_capacity};
 ghost use Rattle.meaning.specs.Types.{Entry, Defs};

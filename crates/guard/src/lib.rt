@@ -1,5 +1,7 @@
 // The checks over types and definitions alone, for jobs and for answer files: 9, a name without definition; 10, a definition that reaches itself
 // without entering an element.
+#![tactic(auto)]
+
 ghost use Rattle.std.specs.Prelude.{◌≡◌, ◌*◌, ◌≤◌, ◌<◌, length, take};
 ghost use Rattle.meaning.specs.Base.{lowest, type_width};
 ghost use Rattle.meaning.specs.Types.{Defs, entry_of, name_of};

@@ -1,5 +1,7 @@
 // The items of the text form, a step at a time: an item that is to be read is made at once or opens a frame, and a frame goes on when the item behind it is
 // made. Refusals 22, 6 and 23. Nodes are written children first, left first; the node of an item that was made is the last.
+#![tactic(auto)]
+
 ghost use Rattle.std.specs.Prelude.{◌≡◌, List, ℕ, ◌-◌, ◌≤◌, ◌<◌, length};
 ghost use Rattle.meaning.specs.Records.{node};
 ghost use Rattle.items.specs.Machine.{item_at};

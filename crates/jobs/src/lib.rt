@@ -1,4 +1,6 @@
 // Reading a job: 1 to 7 record by record, then 8 to 12 over the whole.
+#![tactic(auto)]
+
 ghost use Rattle.std.specs.Prelude.{◌≡◌, length};
 ghost use Rattle.meaning.specs.Base.{refused, caps_of};
 ghost use Rattle.meaning.specs.Records.{Tables};

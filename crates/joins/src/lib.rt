@@ -1,5 +1,7 @@
 // What a query adds to the walks of its parts: an element or a pair around them, U.q, and 14 after the source of let and for. The first two take a part's
 // entry; 14 takes what the source's walk left and answers in the same form, so that a refusal passes through.
+#![tactic(auto)]
+
 ghost use Rattle.std.specs.Prelude.{◌≡◌, ◌≤◌, ◌<◌, length};
 ghost use Rattle.joins.specs.Joins.{Adds, Repeats, chosen, Frees};
 

@@ -1,5 +1,7 @@
 // The typing walk of queries that have no parts: (), a text, a variable, child and dos. Those that look a variable up take a scope by value and hand it
 // back. The first `used` of `defs` are the definitions.
+#![tactic(auto)]
+
 ghost use Rattle.std.specs.Prelude.{◌≡◌, List, ℕ, ◌≤◌, length, take};
 ghost use Rattle.meaning.specs.Types.{Defs};
 ghost use Rattle.meaning.specs.Queries as Queries;

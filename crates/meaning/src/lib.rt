@@ -1,3 +1,5 @@
+#![tactic(auto)]
+
 ghost use Rattle.std.specs.Prelude.{◌≡◌};
 
 // The meaning of document 01 stands in specs/, its laws in proofs/. The code is in the crates above this one; this function only makes it a crate.

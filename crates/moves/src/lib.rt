@@ -1,5 +1,7 @@
 // What queries add to the evaluations of their parts: an element's entry before its body, a source held for its variable, and bodies moved down over
 // their source.
+#![tactic(auto)]
+
 ghost use Rattle.std.specs.Prelude.{◌≡◌, ◌+◌, ◌*◌, ◌≤◌, length, take, drop};
 ghost use Rattle.words.specs.Tables.{stored};
 ghost use Rattle.moves.specs.Moves.{Room, Wraps, Moves};

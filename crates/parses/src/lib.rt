@@ -1,4 +1,6 @@
 // The query of a text: one loop over a stack of what is open, then the end of the text, 5, and the records of its nodes, or 30.
+#![tactic(auto)]
+
 ghost use Rattle.std.specs.Prelude.{◌≡◌, ◌+◌, ◌*◌, ◌≤◌, ◌<◌, leb, length};
 ghost use Rattle.meaning.specs.Texts.{parse, parse_text};
 ghost use Rattle.parses.specs.Says.{Opened, items_of, Going, Items, Finishes, Parses, Few, Settles, Left};

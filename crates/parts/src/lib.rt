@@ -1,4 +1,6 @@
 // The parts that the text of a query is made of, on a lent stack: a query or a condition gives way to its parts, the first one on top.
+#![tactic(auto)]
+
 ghost use Rattle.std.specs.Prelude.{◌≡◌, List, [], ◌∷◌, ℕ, ◌+◌, ◌*◌, ◌≤◌, ◌<◌, length};
 ghost use Rattle.meaning.specs.Records.{Node};
 ghost use Rattle.meaning.specs.Queries.{cond_at, query_at};

@@ -1,5 +1,7 @@
 // Queries without parts, evaluated: a text, and copies of a variable's trees, of those inside them and of those below them. A scope is lent as where its
 // stretches begin and where they end.
+#![tactic(auto)]
+
 ghost use Rattle.std.specs.Prelude.{◌≡◌, length};
 ghost use Rattle.meaning.specs.Base.{zeros};
 ghost use Rattle.meaning.specs.Forests.{end, leaf, select};

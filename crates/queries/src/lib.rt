@@ -1,4 +1,6 @@
 // A query node of the lent query table as an enum, for the typing walk and for the evaluator.
+#![tactic(auto)]
+
 ghost use Rattle.std.specs.Prelude.{ℕ, ◌+◌, ◌*◌, ◌≤◌, length};
 ghost use Rattle.meaning.specs.Base.{code_width};
 ghost use Rattle.meaning.specs.Records.{node};

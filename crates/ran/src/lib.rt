@@ -1,4 +1,6 @@
 // Running a job on values: typing it, loading the values into the work table, and evaluating the query behind them; 1 to 16, then 18 to 21.
+#![tactic(auto)]
+
 ghost use Rattle.std.specs.Prelude.{◌≡◌, ◌∷◌, ◌++◌, ◌*◌, ◌≤◌, length, get_or, drop};
 ghost use Rattle.meaning.specs.Base.{refused, zeros, caps_of, type_width, code_width, work_capacity};
 ghost use Rattle.meaning.specs.Formed.{VarsRead};

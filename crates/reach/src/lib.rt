@@ -1,4 +1,6 @@
 // What a type entry reaches, elements entered, as a mark for each entry; and the atoms among it that pass a test, by increasing entry number.
+#![tactic(auto)]
+
 ghost use Rattle.std.specs.Prelude.{◌≡◌, true, [], ◌∷◌, ℕ, ◌+◌, ◌*◌, ◌≤◌, ◌<◌, length};
 ghost use Rattle.meaning.specs.Base.{type_width};
 ghost use Rattle.meaning.specs.Types.{Defs, entry_of, head_of};

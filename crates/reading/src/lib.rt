@@ -1,4 +1,6 @@
 // Reads a job or an answer file into the type table and the query table that the caller lends: refusals 1 to 7, record by record from the front.
+#![tactic(auto)]
+
 ghost use Rattle.std.specs.Prelude.{◌≡◌, [], ◌∷◌, ◌+◌, ◌*◌, ◌≤◌, ◌<◌, length};
 ghost use Rattle.meaning.specs.Base.{find, is_some, refused, zeros, padded, caps_of};
 ghost use Rattle.meaning.specs.Types.{table_words, base};

@@ -1,5 +1,7 @@
 // One record of a job, an answer file or a values file: its kind decides its section, its length and the sorts of its fields. Refusals 1 to 3, and
 // whether the fields fit.
+#![tactic(auto)]
+
 ghost use Rattle.std.specs.Prelude.{◌≡◌, [], ◌+◌, ◌*◌, ◌^◌, ◌≤◌, ◌<◌, length};
 ghost use Rattle.meaning.specs.Base.{code_width};
 ghost use Rattle.meaning.specs.Records.{values, has_section, fits, all_fit};

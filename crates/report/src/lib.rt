@@ -1,5 +1,7 @@
 // What the programs print: a line for each entry of a type table, or of a stretch of a work table, then a line with the result; or a refusal alone.
 // Lines are gathered on a page, so that a full table takes a few calls. What stands on the page each contract says; what a call writes none can.
+#![tactic(auto)]
+
 ghost use Rattle.std.specs.Prelude.{◌≡◌, ◌++◌, ◌+◌, ◌*◌, ◌≤◌, length, take, get_or};
 ghost use Rattle.std.proofs.Math.Seq.{paste};
 ghost use Rattle.io.specs.Counts.{IsPrefixLen};

@@ -1,4 +1,6 @@
 // One node more of the query that a text gives: written while there are at most 1,024, and counted up to 1,025 (more are refused by 5, but the text is still read to its end).
+#![tactic(auto)]
+
 ghost use Rattle.std.specs.Prelude.{◌≤◌, length};
 ghost use Rattle.meaning.specs.Records.{node};
 ghost use Rattle.rows.specs.Says.{Emits};

@@ -2,6 +2,8 @@
 // what is begun on a lent stack: a frame is six words. A source that let or for binds is held in a second table, where its variable finds it. The scope
 // comes by value; its two arrays are lent to each step that looks a variable up, binds it before a body or unbinds it after that. Parts have lower nodes, so
 // there are never more frames than nodes.
+#![tactic(auto)]
+
 ghost use Rattle.std.specs.Prelude.{◌≡◌, List, ℕ, suc, ◌+◌, ◌*◌, ◌≤◌, ◌<◌, length};
 ghost use Rattle.meaning.specs.Queries as Queries;
 ghost use Rattle.meaning.specs.Queries.{query_at, cond_at};

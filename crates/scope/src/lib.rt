@@ -1,4 +1,6 @@
 // The variables in scope, by value: one word for each of the 64 that there can be. `bind`, `lookup` and `unbind` hand the scope back.
+#![tactic(auto)]
+
 ghost use Rattle.std.specs.Prelude.{◌≡◌, ◌*◌, ◌≤◌, ◌<◌, length, get_or};
 ghost use Rattle.meaning.specs.Formed.{VarsRead};
 ghost use Rattle.words.specs.Tables.{vars_of};

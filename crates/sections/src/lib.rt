@@ -1,4 +1,6 @@
 // The query section of a job, written into a lent buffer: a record for each node of a query table, with as many fields as its kind has. 30, or its bytes.
+#![tactic(auto)]
+
 ghost use Rattle.std.specs.Prelude.{◌≡◌, ◌+◌, ◌≤◌, length};
 ghost use Rattle.meaning.specs.Base.{concat_map};
 ghost use Rattle.meaning.specs.Records.{node};

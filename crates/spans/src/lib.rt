@@ -1,6 +1,8 @@
 // Where the forests of the variables in scope stand in the table of held forests: a first entry and an end for each of the 64 variables that there can
 // be, the same for a variable that is not in scope. A scope is a struct of two arrays; while it is worked with they are lent, so that 256 bytes need not be
 // copied for each variable. `bind` tells which stretch it hides and `unbind` puts that stretch back, so that the scope is as it was whatever stood there.
+#![tactic(auto)]
+
 ghost use Rattle.std.specs.Prelude.{◌≡◌, ◌<◌};
 ghost use Rattle.spans.specs.Shows.{scope, standing, bound};
 

@@ -1,5 +1,7 @@
 // One piece of a query's text, spelled into a lent buffer: a word, a sign or a decimal number, with a blank before it or without. What has no room is
 // left out, and its length counted.
+#![tactic(auto)]
+
 ghost use Rattle.std.specs.Prelude.{◌≡◌, [], ◌∷◌, length};
 ghost use Prim.Native.Nat.{◌+◌, ◌≤◌};
 ghost use Rattle.meaning.specs.Written.{digits, piece_bytes, is_wide, between};

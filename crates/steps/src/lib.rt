@@ -1,5 +1,7 @@
 // Steps of the text form's parser that read a token or two and make no node: the sign or word that must come, a number in its range, a variable, and a test.
 // Refusals 22 and 6, each at its token's first byte.
+#![tactic(auto)]
+
 ghost use Rattle.std.specs.Prelude.{◌≤◌, ◌<◌, length};
 ghost use Rattle.meaning.specs.Texts.{here, expect, number_in, variable_at, test_at};
 ghost use Rattle.steps.specs.Says.{Goes, Gives};

@@ -1,4 +1,6 @@
 // Writing a job's query as text: reading the job, then its text into a lent buffer; 1 to 12, 23 and 30.
+#![tactic(auto)]
+
 ghost use Rattle.std.specs.Prelude.{◌≡◌, ◌++◌, ◌*◌, ◌≤◌, length, drop};
 ghost use Rattle.meaning.specs.Base.{zeros, caps_of, type_width, code_width};
 ghost use Rattle.meaning.specs.Written.{write_text};

@@ -1,4 +1,6 @@
 // The tokens of a text in which designers type a query: the next one from an offset on, behind blanks. Bytes may be any.
+#![tactic(auto)]
+
 ghost use Rattle.std.specs.Prelude.{◌≡◌, ◌&&◌, leb, List, ◌∷◌, ℕ, ◌+◌, ◌≤◌, min, length, get_or, drop};
 ghost use Rattle.meaning.specs.Forests.{same_words};
 ghost use Rattle.meaning.specs.Tokens.{is_blank, words, signs, run, word_among, sign_among, decimal, token_at};

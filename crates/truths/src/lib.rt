@@ -1,5 +1,7 @@
 // Conditions, evaluated: whether two forests are the same entry for entry, whether one is empty, and the conditions that join others. A scope is lent as
 // where its stretches begin and where they end.
+#![tactic(auto)]
+
 ghost use Rattle.std.specs.Prelude.{◌≡◌, ◌*◌, ◌≤◌, ◌<◌};
 ghost use Rattle.meaning.specs.Forests.{same_words};
 ghost use Rattle.meaning.specs.Queries as Queries;

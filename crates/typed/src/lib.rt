@@ -1,4 +1,6 @@
 // Typing a job: reading it, then the walk from the query's root, with 13 to 16 where they are met.
+#![tactic(auto)]
+
 ghost use Rattle.std.specs.Prelude.{◌≡◌, ◌*◌, ◌≤◌, length};
 ghost use Rattle.meaning.specs.Base.{refused, caps_of, code_width};
 ghost use Rattle.meaning.specs.Typing.{type_job};

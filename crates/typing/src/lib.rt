@@ -4,6 +4,8 @@
 // of `defs` are the definitions; the marks are scratch for prime, child and dos. The loop has the scope, by value: a variable is bound before a body, and
 // unbound after it. A step that looks variables up is given it (`look`), and one that binds a variable or unbinds it hands it back (`turn`); the others
 // (`enter`, `leave`) are the same in every scope.
+#![tactic(auto)]
+
 ghost use Rattle.std.specs.Prelude.{◌≡◌, List, ℕ, suc, ◌+◌, ◌*◌, ◌≤◌, ◌<◌, length, take, get_or, set};
 ghost use Rattle.meaning.specs.Types.{Defs};
 ghost use Rattle.meaning.specs.Records.{Node};

@@ -1,5 +1,7 @@
 // Refusal 8's test of the root, and refusal 12: each node but the root is used exactly once. One pass counts the uses into a lent table, one looks for
 // the lowest node.
+#![tactic(auto)]
+
 ghost use Rattle.std.specs.Prelude.{◌≡◌, not, [], ◌∷◌, ◌*◌, ◌-◌, ◌≤◌, ◌<◌, eqb, length, get_or};
 ghost use Rattle.meaning.specs.Base.{lowest, zeros, code_width};
 ghost use Rattle.meaning.specs.Records.{node};

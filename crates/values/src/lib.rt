@@ -1,4 +1,6 @@
 // The values file into the work table: 18 over the whole file, then 19, then 20.
+#![tactic(auto)]
+
 ghost use Rattle.std.specs.Prelude.{◌≡◌, [], ◌∷◌, ◌+◌, ◌*◌, ◌≤◌, ◌<◌, min, length};
 ghost use Rattle.meaning.specs.Base.{forest_width, work_capacity};
 ghost use Rattle.meaning.specs.Values.{value_at, read_forest, read_value, read_values, load_values};

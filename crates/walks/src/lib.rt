@@ -1,6 +1,8 @@
 // The typing rules prime, content, filter, child and U.q. Each answers an entry, appends what it names, and refuses 16 at its node. The first `used` of
 // `defs` are the definitions. prime, content and filter go from an entry to those that stand in it, and back: one loop, `walk`, does it for all three, with
 // what is begun on a lent stack. No entry comes twice on such a way, since past refusal 10 no name comes back to its definition: so 4,096 words are enough.
+#![tactic(auto)]
+
 ghost use Rattle.std.specs.Prelude.{◌≡◌, ◌*◌, ◌<◌, ◌≤◌, length, take, get_or};
 ghost use Rattle.meaning.specs.Base.{type_width, type_capacity};
 ghost use Rattle.meaning.specs.Types.{Defs, at};

@@ -1,5 +1,7 @@
 // Words in bytes, entries and nodes in lent tables, clearing, copying, and the test word: the leaves that reading, typing and running share.
 // Only these functions know how many words an entry has.
+#![tactic(auto)]
+
 ghost use Rattle.std.specs.Prelude.{◌≡◌, [], ◌∷◌, ◌++◌, length, get_or, take, drop};
 ghost use Prim.Native.Nat.{◌+◌, ◌*◌, ◌≤◌, ◌<◌};
 ghost use Rattle.meaning.specs.Base.{word, bytes_of, zeros, padded, type_width, code_width, type_capacity, code_capacity, work_capacity};

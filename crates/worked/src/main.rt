@@ -7,6 +7,8 @@
 // in bytes; then the name, the job or answer file, and the values file.
 // Beside the lines it looks at all that the operation was lent: it is zero after a refusal, and behind the entries or the answer after an acceptance. The
 // type table and the query table of a run are word for word those that typing the job leaves.
+#![tactic(auto)]
+
 ghost use Rattle.std.specs.Prelude.{◌≡◌, true, ℕ, ◌≤◌, ◌<◌, length, get_or, drop};
 ghost use Rattle.io.specs.Counts.{IsPrefixLen};
 

@@ -1,5 +1,7 @@
 // The text of a query table's query, written into a lent buffer: its parts are taken off a stack, pieces are spelled, and a query or a condition gives way
 // to its own parts. 23 and 30, or its bytes.
+#![tactic(auto)]
+
 ghost use Rattle.std.specs.Prelude.{◌≡◌, ◌&&◌, ◌||◌, ◌++◌, ◌≤◌, length};
 ghost use Rattle.meaning.specs.Written.{piece_bytes, is_wide, between, spoken};
 ghost use Rattle.words.specs.Says.{found};

@@ -1,0 +1,14 @@
+-- `words::copy` meets its contract.
+-- Assumes nothing.
+use Prim.Native.Nat.{◌-◌}
+use mathlib.Core.Path.{refl}
+use lib.ListN.{length, length-set}
+use lib.Seq.{paste-zero}
+use Rattle.words.proofs.Stores.{Copied, copied_more, copied_all}
+use Rattle.words.proofs.copy.Given as goal
+
+abbrev pub invariant-loop-i : goal.invariant-loop-i
+invariant-loop-i l = Copied l.from l.initial.to l.i l.to
+
+abbrev pub decreases-loop-i : goal.decreases-loop-i
+decreases-loop-i l = length l.from - l.i
