@@ -1,0 +1,14 @@
+-- `guard::fill_masks` meets its contract: the sets below e are their entries' (`Filling`). Assumes nothing.
+use mathlib.Core.Path.{sym}
+use Prim.Native.Nat.{◌-◌}
+use Rattle.words.specs.Tables.{table_of}
+use Rattle.words.proofs.Tables.{table_length}
+use Rattle.words.proofs.Entries.{entry_read}
+use Rattle.guard.proofs.Filling.{Filling, filling_none, filling_low, filling_more, filling_all}
+use Rattle.guard.proofs.fill_masks.Given as goal
+
+abbrev pub invariant-loop-e : goal.invariant-loop-e
+invariant-loop-e l = Filling (table_of l.types l.count) l.count l.initial.masks l.masks l.e
+
+abbrev pub decreases-loop-e : goal.decreases-loop-e
+decreases-loop-e l = l.count - l.e

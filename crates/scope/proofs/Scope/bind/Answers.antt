@@ -1,0 +1,9 @@
+-- `scope::Scope::bind` meets its contract.
+-- Assumes nothing.
+use mathlib.Core.Path.{ap}
+use Rattle.scope.specs.Shows.{bound}
+use borrow.Author.Rules.{rules}
+use Rattle.scope.proofs.Scope.bind.Goals as goal
+
+pub returns : goal.returns
+returns c = ap (bound c.args.t1 c.args.v) c.slot-w.ensures

@@ -1,0 +1,25 @@
+-- `uses::lowest_misuse` meets its contract: the lowest from here on is the lowest (`Seeking`); the measure is how many nodes are left. Assumes nothing.
+use Prim.Native.Nat.{◌-◌}
+use native.Mathlib.Omega.{arith}
+use mathlib.Core.Path.{ap}
+use mathlib.Core.Bool.{not}
+use lib.Dec.{eqb}
+use lib.ListN.{get_or}
+use borrow.Author.Tests.{eq-eqb, ne_eqb}
+use Rattle.meaning.proofs.Searches.{Seeking, seeking_none, seeking_more, seeking_here, seeking_all}
+use borrow.Author.Rules.{rules}
+use Rattle.uses.proofs.lowest_misuse.Goals as goal
+
+pub loop-q-init : goal.loop-q-init
+loop-q-init c = seeking_none _ _
+
+pub returns-then-counts-q-ne1 : goal.returns-then-counts-q-ne1
+returns-then-counts-q-ne1 c =
+    seeking_here _ _ c.loop-q.invariant (omega arith) (ap not (ne_eqb _ 1 c.if-counts-q-ne1.true))
+
+pub loop-q-preserved : goal.loop-q-preserved
+loop-q-preserved c =
+    seeking_more _ _ c.loop-q.invariant (omega arith) (ap not (eq-eqb _ 1 c.if-counts-q-ne1.false))
+
+pub returns : goal.returns
+returns c = seeking_all _ _ c.loop-q.invariant (omega arith)
