@@ -15,7 +15,7 @@ use records::{File, Item, Rec};
 
 // How far a file is read: the place of the next record, how many entries, definitions, variables and query nodes there are, the section's number, and
 // the result entry if record 80 was read.
-#[derive(Drop)]
+#[derive(Clone, Copy)]
 pub struct Counts {
     pub at: usize,
     pub types: usize,

@@ -21,7 +21,7 @@ pub enum Sort {
 }
 
 // What is read in sections: a job or an answer file.
-#[derive(Drop)]
+#[derive(Clone, Copy)]
 pub enum File {
     Job,
     Answer,

@@ -6,4 +6,4 @@ use borrow.Author.Rules.{rules}
 use Rattle.scope.proofs.Scope.bind.Goals as goal
 
 pub returns : goal.returns
-returns c = ap (bound c.args.t1 c.args.v) c.slot-w.ensures
+returns c = ap (bound c.args.self c.args.v) c.slot-w.ensures

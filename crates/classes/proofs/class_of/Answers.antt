@@ -1,0 +1,8 @@
+-- `classes::class_of` meets its contract: what stands in an appended entry stands before it.
+-- Assumes nothing.
+use Rattle.classes.proofs.Laws.{class_appended}
+use borrow.Author.Rules.{rules}
+use Rattle.classes.proofs.class_of.Goals as goal
+
+pub returns : goal.returns
+returns c = λ D T F f l p m. class_appended D T F _ f _ l p m _ c.from_parts.ensures

@@ -1,0 +1,17 @@
+-- `classes::fill` meets its contract: after so many entries those have their classes.
+-- Assumes nothing.
+use mathlib.Core.Path.{refl, sym, ◌≡◌, ◌∙◌}
+use Prim.Native.Nat.{◌-◌}
+use native.Mathlib.Omega.{arith}
+use lib.ListN.{length, take}
+use lib.Seq.{length-take-le}
+use Rattle.words.specs.Tables.{table_of}
+use Rattle.words.proofs.Tables.{table_length}
+use Rattle.classes.proofs.Climbing.{Filling, filling_start, filling_on, filling_end, blank_long}
+use Rattle.classes.proofs.fill.Given as goal
+
+abbrev pub invariant-loop-e : goal.invariant-loop-e
+invariant-loop-e l = Filling (take l.used l.defs) (table_of l.types l.count) l.initial.classes l.classes l.e × (length l.back ≡ length l.initial.back)
+
+abbrev pub decreases-loop-e : goal.decreases-loop-e
+decreases-loop-e l = l.count - l.e
