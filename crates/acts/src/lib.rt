@@ -7,7 +7,7 @@ ghost use Rattle.words.specs.Tables.{table_of};
 ghost use Rattle.acts.specs.Acts.{Part, Place, prime_of, content_of, sift_of, act_of};
 
 // Which of the rules: prime, content, or filter by a test word other than 0.
-#[derive(Drop)]
+#[derive(Clone, Copy)]
 pub enum Mode {
     Prime,
     Content,

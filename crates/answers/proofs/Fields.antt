@@ -67,6 +67,8 @@ module _ {k : ℕ} (r : Recorded k) (a b : ℕ) where
 
 -- from entry 2 on a formed table has such kinds alone
 recorded_of : {n k a b : ℕ} {x : Entry} → Kinded k a b x → Lower n x → Recorded k
+recorded_of {n = n} {k = k} {a = a} {b = b} (is_string _) h = elim h [ ]
+recorded_of {n = n} {k = k} {a = a} {b = b} (is_other _) h = elim h [ ]
 recorded_of (is_element p) h = record { least = omega arith; most = omega arith }
 recorded_of (is_pair p) h = record { least = omega arith; most = omega arith }
 recorded_of (is_union p) h = record { least = omega arith; most = omega arith }

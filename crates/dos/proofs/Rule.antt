@@ -41,16 +41,16 @@ module _ {D : Defs} {ws us cs ds : List ℕ} (count : ℕ) (f : ℕ → Bool) (n
   star_done {l} p adds = let a = left_ready p g in left_after (λ room v. append room node (Types.star v)) p g (adds D (Types.star l) (new_star a.1) a.0)
 
 -- THE RULE, where the first that is kept is x
-module _ {D : Defs} {ws cs defs ms : List ℕ} {count e x : ℕ} (node test : ℕ) (R : Ready D ws cs count) (reach : Reached ws count defs e ms)
+module _ {D : Defs} {ws cs defs ms : List ℕ} {count e x : ℕ} (node test : ℕ) (R : Ready D ws cs count) (given : Given ws count defs D) (reach : Reached ws count defs e ms)
     (next : Next (picked test (table_of ws count) (marks_of count ms)) count 0 x) where
   pub dos_none : x ≡ count → Left D ws ws cs cs (Made.Entry 0 count) (dos_rule (type_capacity (length ws)) node D test e (table_of ws count))
   unfolding dos_rule star_of
-  dos_none p = rw (atoms_none test reach next (omega arith)) (left_here R (omega (arith, R.formed.two, table_length ws count)))
+  dos_none p = rw (atoms_none test reach given next (omega arith)) (left_here R (omega (arith, R.formed.two, table_length ws count)))
 
   pub dos_some : {us ds : List ℕ} {r : Made} → x < count → Left D ws us cs ds r (Starred ws count (picked test (table_of ws count) (marks_of count ms)) node x)
       → Left D ws us cs ds r (dos_rule (type_capacity (length ws)) node D test e (table_of ws count))
   unfolding dos_rule
-  dos_some h g = rw (atoms_one test reach next h) g
+  dos_some h g = rw (atoms_one test reach given next h) g
 
 -- WHAT A CALLER HAS: the definitions in use are the first so many of those lent; and marks for every entry that a table may have
 module _ {D : Defs} {ws cs : List ℕ} {count : ℕ} (R : Ready D ws cs count) where

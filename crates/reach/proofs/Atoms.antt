@@ -18,7 +18,7 @@ use Rattle.meaning.specs.Rules as Rules
 use Rattle.meaning.specs.Rules.{append, unions}
 use Rattle.words.specs.Tables.{entry_at, table_of}
 use Rattle.words.proofs.Tables.{table_length, table_at}
-use Rattle.reach.specs.Marks.{marks_of, Reached}
+use Rattle.reach.specs.Marks.{marks_of, Given, Reached}
 use Rattle.reach.specs.Atoms as Atoms
 use Rattle.reach.specs.Atoms.{picked, Next}
 use Rattle.reach.proofs.Marks.{marked_at, unmarked_at}
@@ -135,7 +135,7 @@ module _ {f : ℕ → Bool} {n i r : ℕ} (x : Next f n i r) (room node u : ℕ)
   unions_none h = rw (next_none x h)
 
 -- THE ATOMS BELOW AN ENTRY are those kept by the marks of what it reaches
-module _ {types : List ℕ} {count : ℕ} {defs : List ℕ} {e : ℕ} {ms : List ℕ} {D : Defs} (test : ℕ) (reach : Reached types count defs e ms) where
+module _ {types : List ℕ} {count : ℕ} {defs : List ℕ} {e : ℕ} {ms : List ℕ} {D : Defs} (test : ℕ) (reach : Reached types count defs e ms) (given : Given types count defs D) where
   pub atoms_kept : atoms_below test D (table_of types count) e ≡ kept_from (picked test (table_of types count) (marks_of count ms)) 0 (count - 0)
   unfolding atoms_below picked
   atoms_kept =

@@ -10,7 +10,7 @@ use native.Mathlib.Omega.{arith}
 use native.Mathlib.Decide.{ℕ_discrete, dec_lt}
 use lib.ListN.{length, get_or, take, drop, get_or-replicate, get_or-append}
 use lib.Seq.{length-take-le, length_front, ext_get_or}
-use Rattle.meaning.specs.Base.{In, first, zeros}
+use Rattle.meaning.specs.Base.{In, first, later, zeros}
 use Rattle.meaning.specs.Types.{Table, Defs, entry_of, at}
 use Rattle.meaning.specs.Reach.{steps_of, reached}
 use Rattle.meaning.proofs.Reach as Reach
@@ -82,6 +82,7 @@ module _ {types defs : List ℕ} {count : ℕ} {D : Defs} (g : Given types count
     where
       alone : (x : ℕ) → In x (e ∷ []) → (x < count) × Seen ns x
       alone x first = (low, w.done e first)
+      alone x (later h) = elim h [ ]
 
       only : (i : ℕ) → Seen ms i ⊎ (In i (e ∷ []) × Listed count ns left i) → i < count → Goal i
       only i (inl s) k = absurd (s (none i k))
@@ -89,6 +90,7 @@ module _ {types defs : List ℕ} {count : ℕ} {D : Defs} (g : Given types count
         where
           start : (x : ℕ) → In x (e ∷ []) → Goal x
           start x first = Reach.reached_self true D T e (rw table_length low)
+          start x (later h) = elim h [ ]
 
       held : (i : ℕ) → i < count → Seen ms i ⊎ (In i (e ∷ []) × Listed count ns left i) → Listed count ns left i ⊎ ((x : ℕ) → In x (steps i) → Seen ns x)
       held i k (inl s) = absurd (s (none i k))

@@ -9,7 +9,7 @@ ghost use Rattle.words.specs.Tables.{code_of};
 ghost use Rattle.records.specs.Says.{sort_of, file_of, section_of, sorts_of, fields_of, Formed, Owned, FieldAt, Stands};
 
 // What a field is: a label, the number of a type entry, of a definition or of a variable, any word, a query node that is no condition, a condition.
-#[derive(Drop)]
+#[derive(Clone, Copy)]
 pub enum Sort {
     Label,
     EntryNo,
@@ -29,7 +29,7 @@ pub enum File {
 
 // What a record of a kind has: the number of its section (0 types, 1 definitions, 2 variables, 3 query, 4 result, 5 values), its length in bytes, and
 // the sorts of its fields (of one that it does not have: any word).
-#[derive(Drop)]
+#[derive(Clone, Copy)]
 pub struct Form {
     pub section: u16,
     pub length: usize,
@@ -216,7 +216,7 @@ fn has_section(file: File, section: u16) -> bool
 }
 
 // A whole record: its kind, its fields (one that it does not have is 0), its form, and the place after it.
-#[derive(Drop)]
+#[derive(Clone, Copy)]
 pub struct Item {
     pub kind: u16,
     pub a: u16,

@@ -16,11 +16,11 @@ size_of-n-requires c =
 
 pub overflow_add-n : goal.overflow_add-n
 overflow_add-n c =
-    omega (arith, sizing_room _ _ c.loop-i.invariant c.loop-i-test.true c.read_entry-x.result c.read_entry-x.ensures c.type_size.ensures)
+    omega (arith, sizing_room _ _ c.loop-i.invariant c.loop-i-test.true c.read_entry-x.result c.read_entry-x.ensures c.size_of-n.ensures)
 
 pub loop-i-preserved : goal.loop-i-preserved
 loop-i-preserved c =
-    sizing_more _ _ c.loop-i.invariant c.loop-i-test.true c.read_entry-x.result c.read_entry-x.ensures c.type_size.ensures
+    sizing_more _ _ c.loop-i.invariant c.loop-i-test.true c.read_entry-x.result c.read_entry-x.ensures c.size_of-n.ensures
 
 pub returns : goal.returns
 returns c = sizing_all _ _ c.loop-i.invariant c.loop-i-test.false

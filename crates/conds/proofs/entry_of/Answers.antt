@@ -1,0 +1,12 @@
+-- `conds::entry_of` meets its contract: a refusal for no variable, else its entry. Assumes nothing.
+use borrow.Author.Rules.{rules}
+use Rattle.conds.proofs.entry_of.Goals as goal
+
+pub returns-in-Missing : goal.returns-in-Missing
+returns-in-Missing c = rw c.in-Missing.is
+
+pub returns-in-Tree : goal.returns-in-Tree
+returns-in-Tree c = rw c.in-Tree.is
+
+pub returns-in-Forest : goal.returns-in-Forest
+returns-in-Forest c = rw c.in-Forest.is

@@ -1,0 +1,19 @@
+-- `dos::unite` meets its contract: the unions left to make from here are the whole (`Uniting`). Assumes nothing.
+use mathlib.Core.Path.{◌∙◌}
+use Prim.Native.Nat.{◌-◌}
+use native.Mathlib.Omega.{arith}
+use Rattle.meaning.specs.Types.{Defs}
+use Rattle.words.specs.Tables.{table_of}
+use Rattle.reach.specs.Marks.{marks_of}
+use Rattle.reach.specs.Atoms.{picked}
+use Rattle.reach.proofs.Atoms.{next_from}
+use Rattle.grow.specs.Grow.{Ready}
+use Rattle.dos.proofs.Uniting.{next_low, Uniting, uniting_none, uniting_ready, uniting_inside, uniting_words, uniting_all, uniting_full, uniting_more, uniting_next}
+use Rattle.dos.proofs.unite.Given as goal
+
+abbrev pub invariant-loop-count : goal.invariant-loop-count
+invariant-loop-count l =
+    (D : Defs) → Ready D l.initial.types l.initial.classes l.count → Uniting D l.initial.types l.initial.classes l.count (picked l.test (table_of l.initial.types l.count) (marks_of l.count l.marks)) l.node l.x l.types l.classes l.u l.n l.i
+
+abbrev pub decreases-loop-count : goal.decreases-loop-count
+decreases-loop-count l = l.count - l.i

@@ -1,0 +1,12 @@
+-- `moves::down` meets its contract.
+-- Assumes nothing.
+use Rattle.moves.proofs.Adding.{moves}
+use lib.ListN.{length-take, length-drop}
+use mathlib.Core.Path.{refl}
+use native.Mathlib.Omega.{arith}
+use borrow.Author.Rules.{rules}
+use Rattle.moves.proofs.down.Goals as goal
+
+pub returns : goal.returns
+returns c =
+    moves _ _ c.args.k c.args.m _ c.requires.fits c.shift.ensures c.clear.ensures (simp (length-take, length-drop) (omega (arith, c.requires.fits, c.shift.auto.rest))) refl

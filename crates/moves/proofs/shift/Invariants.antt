@@ -1,0 +1,16 @@
+-- `moves::shift` meets its contract.
+-- Assumes nothing.
+use Rattle.moves.proofs.Shifting.{moved, moved_length, moved_more}
+use Rattle.words.proofs.Stores.{Copied, copied_all}
+use lib.Seq.{paste-zero}
+use lib.ListN.{length-set}
+use mathlib.Core.Path.{refl}
+use Prim.Native.Nat.{◌-◌}
+use native.Mathlib.Omega.{arith}
+use Rattle.moves.proofs.shift.Given as goal
+
+abbrev pub invariant-loop-i : goal.invariant-loop-i
+invariant-loop-i l = Copied (moved l.from l.count l.initial.rest) l.initial.rest l.i l.rest
+
+abbrev pub decreases-loop-i : goal.decreases-loop-i
+decreases-loop-i l = l.count - l.i

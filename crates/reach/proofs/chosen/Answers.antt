@@ -1,0 +1,15 @@
+-- `reach::chosen` meets its contract: not marked, or marked and tested. Assumes nothing.
+use mathlib.Core.Path.{ap, ◌∙◌}
+use Rattle.meaning.specs.Types.{Entry, head_of}
+use Rattle.meaning.specs.Reach.{atom_passes}
+use Rattle.words.proofs.Entries.{words_make}
+use Rattle.reach.proofs.Atoms.{chosen_over, chosen_atom}
+use borrow.Author.Rules.{rules}
+use Rattle.reach.proofs.chosen.Goals as goal
+
+pub returns-then-marks-i-eq0 : goal.returns-then-marks-i-eq0
+returns-then-marks-i-eq0 c = chosen_over _ _ _ _ c.if-marks-i-eq0.true
+
+pub returns : goal.returns
+returns c =
+    chosen_atom _ _ _ _ c.if-marks-i-eq0.false (c.atom_passes.ensures c.read_entry-x.result.b ∙ ap (λ (x : Entry). atom_passes c.args.test (head_of x)) (words_make c.args.types.now c.args.i _ c.read_entry-x.ensures))

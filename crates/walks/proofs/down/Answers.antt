@@ -1,0 +1,33 @@
+-- `walks::down` meets its contract.
+-- Assumes nothing.
+use native.Mathlib.Omega.{arith}
+use Rattle.words.proofs.Tables.{table_length}
+use Rattle.walks.proofs.Turns.{down_answer, down_into, down_first, first_kind}
+use borrow.Author.Rules.{rules}
+use Rattle.walks.proofs.down.Goals as goal
+
+pub returns-in-Answer : goal.returns-in-Answer
+returns-in-Answer c =
+    down_answer _ _ _ c.look-act.ensures c.in-Answer.is
+
+pub returns-in-Into : goal.returns-in-Into
+returns-in-Into c =
+    down_into _ _ _ c.look-act.ensures c.in-Into.is
+
+pub overflow_mul-stack : goal.overflow_mul-stack
+overflow_mul-stack c =
+    let k = first_kind c.requires.fact_1.formed (rw table_length c.requires.fact_1.low) _ c.look-act.ensures c.in-First.is in
+    omega (arith, k)
+
+pub overflow_cast-stack : goal.overflow_cast-stack
+overflow_cast-stack c =
+    omega (arith, c.requires.fact_1.low, c.requires.fact_1.formed.few, table_length c.args.types.now c.args.count)
+
+pub overflow_add-stack : goal.overflow_add-stack
+overflow_add-stack c =
+    let k = first_kind c.requires.fact_1.formed (rw table_length c.requires.fact_1.low) _ c.look-act.ensures c.in-First.is in
+    omega (arith, k, c.requires.fact_1.low, c.requires.fact_1.formed.few, table_length c.args.types.now c.args.count)
+
+pub returns-in-First : goal.returns-in-First
+returns-in-First c =
+    down_first _ _ _ c.look-act.ensures c.in-First.is
