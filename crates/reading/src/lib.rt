@@ -244,7 +244,7 @@ fn read_on(
 }
 
 // The definitions and the declared variables (three words each: 17 or 18, number, type), with zeros after them, and how many there are.
-#[derive(Drop)]
+#[derive(Clone, Copy)]
 pub struct Given {
     pub defs: [u16; 64],
     pub vars: [u16; 48],

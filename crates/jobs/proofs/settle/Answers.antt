@@ -1,0 +1,24 @@
+-- `jobs::settle` meets its contract: the checks passed and the tables stay, or what was read is cleared, behind which both are clear. Assumes nothing.
+use mathlib.Core.Path.{refl, ap, sym, ◌∙◌}
+use Rattle.words.proofs.Tables.{table_cleared, code_cleared}
+use Rattle.checks.specs.Says.{passed}
+use Rattle.jobs.proofs.Checking.{passed_leaves, refused_leaves}
+use native.Mathlib.Omega.{arith}
+use borrow.Author.Rules.{rules}
+use Rattle.jobs.proofs.settle.Goals as goal
+
+pub clear_entries-requires : goal.clear_entries-requires
+clear_entries-requires c =
+    omega (arith, c.requires.types_inside)
+
+pub clear_nodes-requires : goal.clear_nodes-requires
+clear_nodes-requires c =
+    omega (arith, c.requires.code_inside)
+
+pub returns-in-Passed : goal.returns-in-Passed
+returns-in-Passed c =
+    record { leaves = λ t held stored. passed_leaves held _ (sym (ap (passed t) c.in-Passed.is) ∙ c.check.ensures t stored) }
+
+pub returns-in-Refused : goal.returns-in-Refused
+returns-in-Refused c =
+    record { leaves = λ t held stored. refused_leaves _ (sym (ap (passed t) c.in-Refused.is) ∙ c.check.ensures t stored) c.refusal.ensures (table_cleared _ t.types held.entries held.types refl c.clear_entries.ensures) (code_cleared _ t.code held.nodes_are held.code refl c.clear_nodes.ensures) }
