@@ -182,7 +182,7 @@ fn paired(stack: &mut [u16], i: usize, f: Frame, q: u16, at: usize, k: usize) ->
     requires fact_1 { 6 * i + 6 ≤ length stack.old }
     requires fact_2 { at + k ≤ 8192 }
     requires fact_3 { f.kept + k ≤ 8193 }
-    ensures* { λ r. ⌜ ((s : Spans) (held rest : List ℕ) (w : Waits (λ n p r. Queries.pair n p r) q f at k s held rest) → Steps w.code w.nodes (still (query_at (code_of w.code w.nodes) w.back.outer.node) f) w.back.outer held rest stack.old stack.new i (turn r s)) ⌝ }
+    ensures { (s : Spans) (held rest : List ℕ) (w : Waits (λ n p r. Queries.pair n p r) q f at k s held rest) → Steps w.code w.nodes (still (query_at (code_of w.code w.nodes) w.back.outer.node) f) w.back.outer held rest stack.old stack.new i (turn result s) }
 {
     if f.kept == 0 {
         let kept = k as u16 + 1;
@@ -224,7 +224,7 @@ fn named(
     requires fact_1 { 6 * i + 6 ≤ length stack.old }
     requires fact_2 { v ≤ 63 }
     requires fact_3 { Waits (λ n p r. Queries.let_in n v p r) q f at k (scope froms.old tos.old) held.old rest.old }
-    ensures* { λ r. ⌜ ((w : Waits (λ n p r. Queries.let_in n v p r) q f at k (scope froms.old tos.old) held.old rest.old) → Steps w.code w.nodes (still (query_at (code_of w.code w.nodes) w.back.outer.node) f) w.back.outer held.new rest.new stack.old stack.new i (turn r (scope froms.new tos.new))) ⌝ }
+    ensures { (w : Waits (λ n p r. Queries.let_in n v p r) q f at k (scope froms.old tos.old) held.old rest.old) → Steps w.code w.nodes (still (query_at (code_of w.code w.nodes) w.back.outer.node) f) w.back.outer held.new rest.new stack.old stack.new i (turn result (scope froms.new tos.new)) }
 {
     let base = words::wide(f.base);
     let w = words::wide(v);
@@ -321,7 +321,7 @@ fn each(
     requires fact_1 { 6 * i + 6 ≤ length stack.old }
     requires fact_2 { v ≤ 63 }
     requires fact_3 { Waits (λ n p r. Queries.for n v p r) q f at k (scope froms.old tos.old) held.old rest.old }
-    ensures* { λ r. ⌜ ((w : Waits (λ n p r. Queries.for n v p r) q f at k (scope froms.old tos.old) held.old rest.old) → Steps w.code w.nodes (still (query_at (code_of w.code w.nodes) w.back.outer.node) f) w.back.outer held.new rest.new stack.old stack.new i (turn r (scope froms.new tos.new))) ⌝ }
+    ensures { (w : Waits (λ n p r. Queries.for n v p r) q f at k (scope froms.old tos.old) held.old rest.old) → Steps w.code w.nodes (still (query_at (code_of w.code w.nodes) w.back.outer.node) f) w.back.outer held.new rest.new stack.old stack.new i (turn result (scope froms.new tos.new)) }
 {
     let base = words::wide(f.base);
     if f.kept != 0 {

@@ -13,7 +13,7 @@ use records::{Item, Rec};
 use words::Found;
 
 // A record of a values file: its kind, its fields (one that it does not have is 0), and the place after it.
-#[derive(Drop)]
+#[derive(Clone, Copy)]
 pub struct Line {
     pub kind: u16,
     pub a: u16,

@@ -193,7 +193,7 @@ pub fn copy(from: &[u16], to: &mut [u16])
 }
 
 // A number that was looked for, or that there is none.
-#[derive(Drop)]
+#[derive(Clone, Copy)]
 pub enum Found {
     At(usize),
     Nowhere,

@@ -8,11 +8,13 @@ use Rattle.walks.proofs.down.Goals as goal
 
 pub returns-in-Answer : goal.returns-in-Answer
 returns-in-Answer c =
-    down_answer _ _ _ c.look-act.ensures c.in-Answer.is
+    let x = down_answer c.args.e c.args.top c.args.stack.now c.look-act.ensures c.in-Answer.is in
+    record { fact_1 = x.0; fact_2 = x.1 }
 
 pub returns-in-Into : goal.returns-in-Into
 returns-in-Into c =
-    down_into _ _ _ c.look-act.ensures c.in-Into.is
+    let x = down_into c.args.e c.args.top c.args.stack.now c.look-act.ensures c.in-Into.is in
+    record { fact_1 = x.0; fact_2 = x.1 }
 
 pub overflow_mul-stack : goal.overflow_mul-stack
 overflow_mul-stack c =
@@ -30,4 +32,5 @@ overflow_add-stack c =
 
 pub returns-in-First : goal.returns-in-First
 returns-in-First c =
-    down_first _ _ _ c.look-act.ensures c.in-First.is
+    let x = down_first c.args.e c.args.top c.args.stack.now c.look-act.ensures c.in-First.is in
+    record { fact_1 = x.0; fact_2 = x.1 }

@@ -8,10 +8,10 @@ use Rattle.walks.proofs.walk.Given as goal
 
 abbrev pub invariant-loop-next : goal.invariant-loop-next
 invariant-loop-next l =
-    Going (record { l.mode = l.mode; l.node = l.node; l.defs = take l.used l.defs; l.types = l.initial.types; l.classes = l.initial.classes; l.count = l.count; start = l.e; deep = length l.initial.stack })
+    Going (record { mode = l.mode; node = l.node; defs = take l.used l.defs; types = l.initial.types; classes = l.initial.classes; count = l.count; start = l.e; deep = length l.initial.stack })
     l.types l.classes l.stack l.n l.next
 
 abbrev pub decreases-loop-next : goal.decreases-loop-next
 decreases-loop-next l =
-    left (record { l.mode = l.mode; l.node = l.node; l.defs = take l.used l.defs; l.types = l.initial.types; l.classes = l.initial.classes; l.count = l.count; start = l.e; deep = length l.initial.stack })
+    left (record { mode = l.mode; node = l.node; defs = take l.used l.defs; types = l.initial.types; classes = l.initial.classes; count = l.count; start = l.e; deep = length l.initial.stack })
     l.stack l.next
