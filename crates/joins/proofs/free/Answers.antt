@@ -1,0 +1,8 @@
+-- `joins::free` meets its contract. Assumes nothing.
+use Rattle.joins.proofs.Added.{free_frees}
+use borrow.Author.Rules.{rules}
+use Rattle.joins.proofs.free.Goals as goal
+
+pub returns : goal.returns
+returns c =
+    free_frees c.args.n c.args.v c.requires c.unbound-judged.result.verdict c.unbound-judged.ensures c.choose-made.ensures

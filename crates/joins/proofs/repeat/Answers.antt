@@ -1,0 +1,6 @@
+-- `joins::repeat` meets its contract: what U.q leaves. Assumes nothing.
+use borrow.Author.Rules.{rules}
+use Rattle.joins.proofs.repeat.Goals as goal
+
+pub returns : goal.returns
+returns c = record { is = c.times.ensures }

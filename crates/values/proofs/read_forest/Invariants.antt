@@ -1,0 +1,13 @@
+-- `values::read_forest` meets its contract: reading what is pending is reading the whole (`Going`); the measure counts each record twice, and the stretches that are open. Assumes nothing.
+use mathlib.Core.Path.{◌≡◌, refl, ◌∙◌}
+use Prim.Native.Nat.{◌+◌, ◌*◌, ◌-◌}
+use native.Mathlib.Omega.{arith}
+use lib.ListN.{length, set, length-set}
+use Rattle.values.proofs.Going.{Going, deep_some, depth_in, depth_low, going_starts, going_down, going_wrong, going_ends, going_on, not_all, room_above, inside_low}
+use Rattle.values.proofs.read_forest.Given as goal
+
+abbrev pub invariant-loop-depth : goal.invariant-loop-depth
+invariant-loop-depth l = Going l.s l.start l.n l.room (length l.initial.work) l.first l.initial.work l.initial.full l.stack l.work l.depth l.at l.e l.full × (length l.work ≡ length l.initial.work) × (length l.stack ≡ length l.initial.stack)
+
+abbrev pub decreases-loop-depth : goal.decreases-loop-depth
+decreases-loop-depth l = 2 * (l.first + l.n - l.e) + l.depth
