@@ -9,7 +9,7 @@ ghost use Rattle.words.specs.Tables.{table_of};
 ghost use Rattle.grow.specs.Grow.{Shows, Ready, Left, New};
 
 // What a rule answers: an entry's number with how many entries there are then, or a refusal with its place.
-#[derive(Drop)]
+#[derive(Clone, Copy)]
 pub enum Made {
     Entry { at: usize, count: usize },
     Refused { number: u16, place: usize },

@@ -14,7 +14,7 @@ pub enum Var {
     Forest(u16),
 }
 
-#[derive(Drop)]
+#[derive(Clone, Copy)]
 pub struct Scope {
     pub slots: [u16; 64],
 }
