@@ -1,0 +1,11 @@
+-- `typing::go_on` meets its contract.
+-- Assumes nothing.
+use mathlib.Core.Path.{refl}
+use Rattle.typing.proofs.Turning.{went}
+use native.Mathlib.Omega.{arith}
+use borrow.Author.Rules.{rules}
+use Rattle.typing.proofs.go_on.Goals as goal
+
+pub returns : goal.returns
+returns c =
+    record { fact_1 = went _ c.wide-node.ensures (omega arith); fact_2 = refl }

@@ -1,0 +1,9 @@
+-- `typing::rise` meets its contract.
+-- Assumes nothing.
+use Rattle.typing.proofs.Turning.{there}
+use borrow.Author.Rules.{rules}
+use Rattle.typing.proofs.rise.Goals as goal
+
+pub returns : goal.returns
+returns c =
+    there _ c.raise-next.ensures
