@@ -1,6 +1,6 @@
 /*
  * What compare.c needs of a system, for x86-64 Linux without a C library, so that a compiler and a linker are all it takes: a start, an end, lines on
- * standard output, and the four functions of <string.h> that compilers call by themselves.
+ * standard output, and the functions of <string.h> that compilers call by themselves.
  */
 #include "start.h"
 
@@ -68,6 +68,9 @@ int memcmp(const void *a, const void *b, size_t count) {
         if (*x != *y) return *x < *y ? -1 : 1;
     return 0;
 }
+
+/* what compilers make of a memcmp that only asks whether the two are the same */
+int bcmp(const void *a, const void *b, size_t count) { return memcmp(a, b, count); }
 
 /* the stack as the kernel leaves it: the number of words, then the words */
 void start_program(long *stack) { leave_program(run_program((int)stack[0], (char **)(stack + 1))); }

@@ -13,6 +13,7 @@ void *memset(void *to, int byte, size_t count);
 void *memcpy(void *to, const void *from, size_t count);
 void *memmove(void *to, const void *from, size_t count);
 int memcmp(const void *a, const void *b, size_t count);
+int bcmp(const void *a, const void *b, size_t count);
 
 /* the program itself: its words, the first of which is its name; its status */
 int run_program(int count, char **word);
