@@ -1,7 +1,7 @@
 /*
  * Emberstitch for the layout engine: the one call that answers a job, its refusals, and the records of an answer file. C99, and C++.
  *
- * Link with target/staticlib/libemberstitch.a, which `rt staticlib emberstitch` proves and writes, for x86-64 Linux.
+ * Link with crates/emberstitch_c/out/libemberstitch_c.a, which `rt lib` in crates/emberstitch_c proves and writes, for x86-64 Linux.
  */
 #ifndef EMBERSTITCH_H
 #define EMBERSTITCH_H
@@ -31,7 +31,7 @@ extern "C" {
  * a buffer of that length, or a longer one, the same job is accepted. A buffer of EMBERSTITCH_ANSWER_MOST bytes is never too short.
  *
  * The number and the buffer are proved, for all bytes and all lengths: the promise is `Call` in crates/emberstitch/specs/Promises.antt; that a buffer of
- * EMBERSTITCH_ANSWER_MOST bytes is long enough is `never-short` in crates/emberstitch/proofs/Longest.antt. This header is no part of any proof.
+ * EMBERSTITCH_ANSWER_MOST bytes is long enough is `never_short` in crates/emberstitch/proofs/Longest.antt. This header is no part of any proof.
  */
 uint64_t emberstitch_answer(const uint8_t *job, size_t job_length, uint8_t *answer, size_t answer_length);
 
