@@ -46,7 +46,7 @@ pub struct Placed {
 }
 
 // What a byte may be one of.
-#[derive(Drop)]
+#[derive(Clone, Copy)]
 enum Class {
     Blank,
     Letter,

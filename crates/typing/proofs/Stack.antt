@@ -170,14 +170,14 @@ module _ (code : List Node) (s : Scope) where
   pub top_of : {nodes n d : ℕ} {st : List ℕ} {fs : List Frame} → Stack nodes st n (suc d) fs → Top nodes st n d fs
   top_of (over {f = f} {fs = fs} h k) = record { frame = f; others = fs; is = refl; sound = h; under = k }
 
-  pub stack_shows : {nodes n d : ℕ} {st : List ℕ} {fs : List Frame} (g : Typing.Scope) → length s.slots ≡ 64 → Stack nodes st n d fs → Shows s g → Shows (scope_of fs) (names_of fs g)
+  pub stack_shows : {nodes n : ℕ} {st : List ℕ} {d : ℕ} {fs : List Frame} (g : Typing.Scope) → length s.slots ≡ 64 → Stack nodes st n d fs → Shows s g → Shows (scope_of fs) (names_of fs g)
   unfolding scope_of names_of
   stack_shows g wide bottom h = h
   stack_shows g wide (over {f = f} {fs = fs} z k) h =
       inside_shows (scope_of fs) (scope_wide fs ∙ wide) (binder (query_at code f.node)) f.kept f.var (names_of fs g) z.free (stack_shows g wide k h)
 
   -- more entries, and words that stand higher
-  pub stack_more : {nodes n m d : ℕ} {st : List ℕ} {fs : List Frame} → n ≤ m → Stack nodes st n d fs → Stack nodes st m d fs
+  pub stack_more : {nodes n m : ℕ} {st : List ℕ} {d : ℕ} {fs : List Frame} → n ≤ m → Stack nodes st n d fs → Stack nodes st m d fs
   stack_more l bottom = bottom
   stack_more l (over {f = f} h k) = over (record { node = h.node; keeps = h.keeps; low = h.low; few = kept_more (query_at code f.node) f.kept l h.few; free = h.free }) (stack_more l k)
 

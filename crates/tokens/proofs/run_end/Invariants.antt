@@ -1,0 +1,15 @@
+-- `tokens::run_end` meets its contract.
+-- Assumes nothing.
+use mathlib.Core.Path.{refl}
+use Prim.Native.Nat.{◌-◌}
+use lib.ListN.{length}
+use Rattle.tokens.specs.Says.{test_of}
+use Rattle.tokens.proofs.Runs.{Running, running_next, running_stops, running_ends}
+use native.Mathlib.Omega.{arith}
+use Rattle.tokens.proofs.run_end.Given as goal
+
+abbrev pub invariant-loop-i : goal.invariant-loop-i
+invariant-loop-i l = Running (test_of l.class) l.s l.at l.i
+
+abbrev pub decreases-loop-i : goal.decreases-loop-i
+decreases-loop-i l = length l.s - l.i

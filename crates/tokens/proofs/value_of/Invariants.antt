@@ -1,0 +1,14 @@
+-- `tokens::value_of` meets its contract.
+-- Assumes nothing.
+use mathlib.Core.Path.{refl}
+use Prim.Native.Nat.{◌-◌}
+use lib.ListN.{length}
+use Rattle.tokens.proofs.Decimals.{Valued, valued_next, valued_all, digit_low}
+use native.Mathlib.Omega.{arith}
+use Rattle.tokens.proofs.value_of.Given as goal
+
+abbrev pub invariant-loop-i : goal.invariant-loop-i
+invariant-loop-i l = Valued l.digits l.i l.n
+
+abbrev pub decreases-loop-i : goal.decreases-loop-i
+decreases-loop-i l = length l.digits - l.i
