@@ -1,0 +1,31 @@
+-- `sections::put_all` meets its contract: the records so far stand in the buffer.
+-- Assumes nothing.
+use Prim.Native.Nat.{◌-◌}
+use Rattle.sections.proofs.Turns.{Recording, recording_none, recording_room, recording_more, recording_all}
+use native.Mathlib.Omega.{arith}
+use borrow.Author.Rules.{rules}
+use Rattle.sections.proofs.put_all.Goals as goal
+
+pub loop-i-init : goal.loop-i-init
+loop-i-init c =
+    recording_none _ _ c.requires.fact_2
+
+pub read_node-x-requires : goal.read_node-x-requires
+read_node-x-requires c =
+    omega (arith, c.requires.fact_1.inside, c.loop-i-test.true)
+
+pub put_record-at-requires : goal.put_record-at-requires
+put_record-at-requires c =
+    recording_room _ _ c.loop-i.invariant c.loop-i-test.true c.read_node-x.result c.read_node-x.ensures
+
+pub loop-i-preserved : goal.loop-i-preserved
+loop-i-preserved c =
+    recording_more _ _ c.loop-i.invariant c.loop-i-test.true c.read_node-x.result c.read_node-x.ensures c.put_record-at.auto.out c.put_record-at.ensures
+
+pub shape_of-out : goal.shape_of-out
+shape_of-out c =
+    c.loop-i.invariant.long
+
+pub returns : goal.returns
+returns c =
+    recording_all _ _ c.loop-i.invariant c.loop-i-test.false

@@ -1,0 +1,66 @@
+-- `spelling::put_digits` meets its contract: one digit, or one behind those of a tenth, of which fewer are asked for.
+-- Assumes nothing.
+use mathlib.Core.Path.{refl}
+use Prim.Native.Nat.{ℕ, ◌<◌, ◌-◌, ◌/◌}
+use native.Mathlib.Omega.{arith}
+use Rattle.spelling.proofs.Spelling.{none_put, one_put, more_put, digits_most}
+use borrow.Author.Rules.{rules}
+use Rattle.spelling.proofs.+put_digits.Goals as goal
+
+abbrev μ-put-digits : Measures 1 put-digits-kinds.ps ℕ
+μ-put-digits κs a = a.1.1.0
+
+abbrev put-digits-at : ℕ → In 1 put-digits-kinds.ps
+put-digits-at t = and 1 put-digits-kinds.ps (is 1 put-digits-kinds.ps μ-put-digits t) put-digits.Pre
+
+abbrev put-digits-below : ℕ → In 1 put-digits-kinds.ps
+put-digits-below t = and 1 put-digits-kinds.ps (falls 1 put-digits-kinds.ps ◌<◌ μ-put-digits t) put-digits.Pre
+
+-- what the callees ask and ensure, `put_digits` itself below the measure t
+
+abbrev calls : ℕ → put-digits-lts.Claims
+calls t = (put-byte-reads.Asked, put-byte-reads.Learnt, put-digits-below t, put-digits.Post)
+
+pub returns-then-most-eq0 : goal.returns-then-most-eq0
+returns-then-most-eq0 t c =
+    none_put _ c.if-most-eq0.true
+
+pub overflow_cast-n : goal.overflow_cast-n
+overflow_cast-n t c =
+    omega (arith, c.if-n-lt10.true)
+
+pub overflow_add-n : goal.overflow_add-n
+overflow_add-n t c =
+    omega (arith, c.if-n-lt10.true)
+
+pub overflow_add-result : goal.overflow_add-result
+overflow_add-result t c =
+    omega (arith, c.requires)
+
+pub returns-then-n-lt10 : goal.returns-then-n-lt10
+returns-then-n-lt10 t c =
+    one_put c.if-most-eq0.false c.if-n-lt10.true refl c.put_byte.ensures
+
+pub overflow_sub-most : goal.overflow_sub-most
+overflow_sub-most t c =
+    omega (arith, c.if-most-eq0.false)
+
+pub put_digits-next-requires : goal.put_digits-next-requires
+put_digits-next-requires t c =
+    (omega (arith, c.decreases, c.if-most-eq0.false), (c.requires.0, omega (arith, c.requires.1)))
+
+pub overflow_cast-n-2 : goal.overflow_cast-n-2
+overflow_cast-n-2 t c =
+    omega arith
+
+pub overflow_add-n-2 : goal.overflow_add-n-2
+overflow_add-n-2 t c =
+    omega arith
+
+pub overflow_add-result-2 : goal.overflow_add-result-2
+overflow_add-result-2 t c =
+    omega (arith, c.requires.0, c.requires.1, c.put_digits-next.ensures.next, digits_most (c.args.most - 1) (c.args.n / 10))
+
+pub returns : goal.returns
+returns t c =
+    more_put c.if-most-eq0.false c.if-n-lt10.false refl c.put_digits-next.ensures c.put_byte-2.ensures
