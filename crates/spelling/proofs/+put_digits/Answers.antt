@@ -1,25 +1,11 @@
 -- `spelling::put_digits` meets its contract: one digit, or one behind those of a tenth, of which fewer are asked for.
 -- Assumes nothing.
 use mathlib.Core.Path.{refl}
-use Prim.Native.Nat.{ℕ, ◌<◌, ◌-◌, ◌/◌}
+use Prim.Native.Nat.{◌-◌, ◌/◌}
 use native.Mathlib.Omega.{arith}
 use Rattle.spelling.proofs.Spelling.{none_put, one_put, more_put, digits_most}
 use borrow.Author.Rules.{rules}
 use Rattle.spelling.proofs.+put_digits.Goals as goal
-
-abbrev μ-put-digits : Measures 1 put-digits-kinds.ps ℕ
-μ-put-digits κs a = a.1.1.0
-
-abbrev put-digits-at : ℕ → In 1 put-digits-kinds.ps
-put-digits-at t = and 1 put-digits-kinds.ps (is 1 put-digits-kinds.ps μ-put-digits t) put-digits.Pre
-
-abbrev put-digits-below : ℕ → In 1 put-digits-kinds.ps
-put-digits-below t = and 1 put-digits-kinds.ps (falls 1 put-digits-kinds.ps ◌<◌ μ-put-digits t) put-digits.Pre
-
--- what the callees ask and ensure, `put_digits` itself below the measure t
-
-abbrev calls : ℕ → put-digits-lts.Claims
-calls t = (put-byte-reads.Asked, put-byte-reads.Learnt, put-digits-below t, put-digits.Post)
 
 pub returns-then-most-eq0 : goal.returns-then-most-eq0
 returns-then-most-eq0 t c =

@@ -7,4 +7,4 @@ use Rattle.spelling.proofs.Spelling.{none_put, one_put, more_put, digits_most}
 use Rattle.spelling.proofs.+put_digits.Given as goal
 
 abbrev pub decreases-put_digits : goal.decreases-put_digits
-decreases-put_digits l = ?
+decreases-put_digits l = l.most
