@@ -1,0 +1,13 @@
+-- `conditions::run` meets its contract: what is left to do with the act that the loop has come to is the whole (`Going`).
+-- Assumes nothing.
+use mathlib.Core.Path.{refl}
+use lib.ListN.{length}
+use Rattle.conditions.proofs.Going.{Going, left, going_start, going_by, going_refused, going_closed, going_resumed, going_begun, resumed_less, begun_less}
+use native.Mathlib.Omega.{arith}
+use Rattle.conditions.proofs.run.Given as goal
+
+abbrev pub invariant-loop-act : goal.invariant-loop-act
+invariant-loop-act l = Going l.s l.deep l.initial.code (length l.initial.stack) l.initial.act l.code l.stack l.top l.act
+
+abbrev pub decreases-loop-act : goal.decreases-loop-act
+decreases-loop-act l = left l.s l.top l.act

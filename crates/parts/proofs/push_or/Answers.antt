@@ -1,0 +1,30 @@
+-- `parts::push_or` meets its contract: one part behind the other.
+-- Assumes nothing.
+use Rattle.parts.proofs.Pushing.{pushes_then}
+use native.Mathlib.Omega.{arith}
+use borrow.Author.Rules.{rules}
+use Rattle.parts.proofs.push_or.Goals as goal
+
+pub push-one-requires : goal.push-one-requires
+push-one-requires c =
+    omega (arith, c.requires)
+
+pub push-two-requires : goal.push-two-requires
+push-two-requires c =
+    omega (arith, c.requires, c.push-one.ensures.next, c.push-one.auto.stack)
+
+pub push-three-requires : goal.push-three-requires
+push-three-requires c =
+    omega (arith, c.requires, c.push-one.ensures.next, c.push-one.auto.stack, c.push-two.ensures.next, c.push-two.auto.stack)
+
+pub push-four-requires : goal.push-four-requires
+push-four-requires c =
+    omega (arith, c.requires, c.push-one.ensures.next, c.push-one.auto.stack, c.push-two.ensures.next, c.push-two.auto.stack, c.push-three.ensures.next, c.push-three.auto.stack)
+
+pub push-requires : goal.push-requires
+push-requires c =
+    omega (arith, c.requires, c.push-one.ensures.next, c.push-one.auto.stack, c.push-two.ensures.next, c.push-two.auto.stack, c.push-three.ensures.next, c.push-three.auto.stack, c.push-four.ensures.next, c.push-four.auto.stack)
+
+pub returns : goal.returns
+returns c =
+    pushes_then (pushes_then (pushes_then (pushes_then c.push-one.ensures c.push-two.ensures) c.push-three.ensures) c.push-four.ensures) c.push.ensures

@@ -1,0 +1,14 @@
+-- `ran::spread` meets its contract: the variables are bound from the last to the first. Assumes nothing.
+use mathlib.Core.Path.{refl}
+use Prim.Native.Nat.{◌≤◌}
+use Rattle.words.specs.Tables.{vars_of}
+use Rattle.spans.specs.Shows.{scope}
+use Rattle.ran.proofs.Spreading.{From, from_none, from_all, turn_low, turn_from}
+use native.Mathlib.Omega.{arith}
+use Rattle.ran.proofs.spread.Given as goal
+
+abbrev pub invariant-loop-i : goal.invariant-loop-i
+invariant-loop-i l = (l.i ≤ l.declared) × From (vars_of l.vars l.declared) l.ends l.i (scope l.from l.to)
+
+abbrev pub decreases-loop-i : goal.decreases-loop-i
+decreases-loop-i l = l.i
