@@ -20,7 +20,7 @@ returns-then-word-eq0 c =
 
 pub turn-requires : goal.turn-requires
 turn-requires c =
-    (c.requires.fact_1, c.requires.1.1)
+    record { fact_1 = c.requires.fact_1; fact_2 = c.requires.fact_3; fact_3 = c.requires.fact_4 }
 
 pub returns-then-word-eq1 : goal.returns-then-word-eq1
 returns-then-word-eq1 c =

@@ -1,0 +1,14 @@
+-- `items::go_inside` meets its contract.
+-- Assumes nothing.
+use Rattle.items.proofs.Framed.{inside_done, inside_stops}
+use native.Mathlib.Omega.{arith}
+use borrow.Author.Rules.{rules}
+use Rattle.items.proofs.go_inside.Goals as goal
+
+pub returns-in-Refused : goal.returns-in-Refused
+returns-in-Refused c =
+    λ b. inside_stops c.expect.ensures b c.in-Refused.is
+
+pub returns-in-To : goal.returns-in-To
+returns-in-To c =
+    λ b. inside_done c.expect.ensures b c.in-To.is c.last-q.ensures c.made.ensures

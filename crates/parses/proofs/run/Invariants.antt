@@ -1,0 +1,14 @@
+-- `parses::run` meets its contract: each step by its answer; the measure is what is left of the text, and the tasks.
+-- Assumes nothing.
+use Prim.Native.Nat.{◌+◌, ◌-◌, ◌*◌}
+use lib.ListN.{length}
+use mathlib.Core.Path.{refl, sym, ◌∙◌}
+use Rattle.parses.proofs.Looping.{Looping, step_refused, step_done, step_more, step_again, all_ends, going_inside, going_few, going_low}
+use native.Mathlib.Omega.{arith}
+use Rattle.parses.proofs.run.Given as goal
+
+abbrev pub invariant-loop-tasks : goal.invariant-loop-tasks
+invariant-loop-tasks l = Looping l.s l.initial.code l.initial.stack l.at l.nodes l.tasks l.code l.stack
+
+abbrev pub decreases-loop-tasks : goal.decreases-loop-tasks
+decreases-loop-tasks l = 3 * (length l.s - l.at) + l.tasks
