@@ -5,11 +5,23 @@
 // (`first_bytes_suffice` in proofs/Whole).
 #![tactic(auto)]
 
-ghost use Rattle.std.specs.Prelude.{◌≡◌, ◌+◌, ◌≤◌, length};
-ghost use Rattle.io.specs.Counts.{IsPrefixLen};
+ghost use Rattle.std.specs.Prelude.{◌≡◌, ◌≤◌, length};
+ghost use Rattle.intake.specs.Counts.{IsPrefixLen};
 
-use libc::STDERR_FILENO;
+use intake::Got;
 use ran::Answer;
+use std::env::{Env, FillError};
+use std::fmt::Display;
+use std::fs::File;
+use std::io;
+use std::io::Write;
+
+// The system's numbers of an argument that is not there, of a name that is too long, and of one that is no text.
+const EINVAL: i32 = 22;
+
+const ENAMETOOLONG: i32 = 36;
+
+const EILSEQ: i32 = 84;
 
 // Room for the job.
 fn job_room() -> [u8; 43520]
@@ -44,89 +56,128 @@ fn work_table() -> [u16; 24576]
     [0; 24576]
 }
 
-// How many bytes came, and whether reading failed.
-#[derive(Drop)]
-struct Got {
-    bytes: usize,
-    failed: bool,
-}
-
-// One read into a room from a place on. No bytes come at the file's end, where the room is full, and where it fails.
-fn read_on(fd: i32, room: &mut [u8], at: usize) -> Got
-    requires { at ≤ length room.old }
-    ensures { at + result.bytes ≤ length room.old }
+// A file's name as it was passed: at most 4,096 bytes.
+fn name_room() -> [u8; 4096]
+    ensures { 4096 ≡ length result }
 {
-    let part = &mut room[at..];
-    let got = libc::read(fd, part);
-    let bytes = io::count(got, part);
-    let failed = got < 0;
-    Got { bytes, failed }
+    [0; 4096]
 }
 
-// Reads until the file ends, the room is full or a read fails.
-fn fill(fd: i32, room: &mut [u8]) -> Got
+// How many bytes a value takes as text, which goes to the front of a room as far as that holds it.
+fn spell<D: Display + Drop>(room: &mut [u8], value: D) -> usize
+    ensures { result ≤ length room.new }
+{
+    let all = room.len();
+    let mut rest = &mut room[..];
+    let _ = rest.write_fmt(value);
+    let left = rest.len();
+    all.saturating_sub(left)
+}
+
+// Why it failed, in the system's words, without the number in brackets that std puts behind them.
+fn reason(e: io::Error, room: &mut [u8]) -> usize
+    ensures { result ≤ length room.new }
+{
+    let all = spell(room, e);
+    match e.raw_os_error() {
+        Some(code) => {
+            let mut number = [0u8; 64];
+            all.saturating_sub(spell(&mut number, format_args!(" (os error {code})")))
+        }
+        None => all,
+    }
+}
+
+// Tells on standard error what failed and why, where it did. What cannot be told is left out.
+fn tell(rt: HostRuntime, what: &[u8], failed: Option<io::Error>) {
+    let Some(e) = failed else {
+        return;
+    };
+    let mut text = [0u8; 256];
+    let n = reason(e, &mut text);
+    let mut out = rt.stderr();
+    let _ = out.write_all(what);
+    let _ = out.write_all(b": ");
+    let _ = out.write_all(&text[..n]);
+    let _ = out.write_all(b"\n");
+}
+
+// The system's number of why an argument is not there as a whole.
+fn number_of(why: FillError) -> i32 {
+    match why {
+        FillError::NotPresent => EINVAL,
+        FillError::TooLong => ENAMETOOLONG,
+    }
+}
+
+// Nothing is read, for a reason that the system has a number for.
+fn not_read(code: i32) -> Got
+    ensures { result.bytes ≡ 0 }
+{
+    Got {
+        bytes: 0,
+        failed: Some(io::Error::from_raw_os_error(code)),
+    }
+}
+
+// Reads the file of a name into a room. Paths of std are UTF-8, so another name is refused.
+fn read_file(rt: HostRuntime, name: &[u8], room: &mut [u8]) -> Got
     ensures { IsPrefixLen result.bytes room.new }
 {
-    let mut at = 0;
-    loop {
-        let got = read_on(fd, room, at);
-        let bytes = got.bytes;
-        if bytes == 0 {
-            let failed = got.failed;
-            return Got { bytes: at, failed };
-        }
-        at += bytes;
+    let Ok(path) = str::from_utf8(name) else {
+        return not_read(EILSEQ);
+    };
+    match File::open(&rt, path) {
+        Ok(mut file) => intake::fill(&mut file, room),
+        Err(e) => Got {
+            bytes: 0,
+            failed: Some(e),
+        },
     }
 }
 
 // Reads the file that an argument names into a room, or says why it cannot.
-fn load(i: usize, room: &mut [u8]) -> Got
+fn load(rt: HostRuntime, i: usize, room: &mut [u8]) -> Got
     ensures { IsPrefixLen result.bytes room.new }
 {
-    let mut path = io::buffer();
-    let n = os::arg(i, &mut path);
-    if os::errno() != 0 {
-        os::fail(b"a file's name");
-        return Got {
-            bytes: 0,
-            failed: true,
-        };
-    }
-    let fd = os::open_read(&path[..n]);
-    if fd < 0 {
-        os::fail(&path[..n]);
-        return Got {
-            bytes: 0,
-            failed: true,
-        };
-    }
-    let got = fill(fd, room);
-    if got.failed {
-        os::fail(&path[..n]);
-    }
-    libc::close(fd);
+    let mut name = name_room();
+    let n = match rt.arg(i, &mut name) {
+        Ok(n) => n,
+        Err(why) => {
+            let got = not_read(number_of(why));
+            tell(rt, b"a file's name", got.failed);
+            return got;
+        }
+    };
+    let got = read_file(rt, &name[..n], room);
+    tell(rt, &name[..n], got.failed);
     got
 }
 
 // Says that the file that an argument names is longer than its room.
-fn too_long(i: usize) {
-    let mut path = io::buffer();
-    let n = os::arg(i, &mut path);
-    io::write_all(STDERR_FILENO, &path[..n]);
-    io::write_all(
-        STDERR_FILENO,
-        b": longer than 2097152 bytes, the most that is read\n",
-    );
+fn too_long(rt: HostRuntime, i: usize) {
+    let mut name = name_room();
+    let n = rt.arg(i, &mut name).unwrap_or(0);
+    let mut out = rt.stderr();
+    let _ = out.write_all(&name[..n]);
+    let _ = out.write_all(b": longer than 2097152 bytes, the most that is read\n");
 }
 
 // An accepted run: the result's entries, then where they stand.
-fn accepted(work: &[u16], first: usize, length: usize) {
-    report::stretch(work, first, length);
-    report::result_at(first, length);
+fn accepted<W: Write>(out: &mut W, work: &[u16], first: usize, length: usize) -> io::Result<()> {
+    report::stretch(out, work, first, length)?;
+    report::result_at(out, first, length)
 }
 
 // The operation on a job and values, and what is printed of it.
-fn outcome(job: &[u8], values: &[u8], types: &mut [u16], query: &mut [u16], work: &mut [u16]) {
+fn outcome<W: Write>(
+    out: &mut W,
+    job: &[u8],
+    values: &[u8],
+    types: &mut [u16],
+    query: &mut [u16],
+    work: &mut [u16],
+) -> io::Result<()> {
     let ran = emberstitch::run_job(job, values, types, query, work);
     let answer = ran.answer;
     match answer {
@@ -136,44 +187,57 @@ fn outcome(job: &[u8], values: &[u8], types: &mut [u16], query: &mut [u16], work
             result: _,
             types: _,
             nodes: _,
-        } => accepted(work, first, length),
-        Answer::Refused { number, place } => report::refused(number, place),
+        } => accepted(out, work, first, length),
+        Answer::Refused { number, place } => report::refused(out, number, place),
     }
 }
 
 // A job on the values of the second argument's file.
-fn run_on(job: &[u8]) {
+fn run_on(rt: HostRuntime, job: &[u8]) -> io::Result<()> {
     let mut values = values_room();
-    let got = load(2, &mut values);
+    let got = load(rt, 2, &mut values);
     let n = got.bytes;
-    if got.failed {
-        return;
+    if got.failed.is_some() {
+        return Ok(());
     }
     if n == values.len() {
-        too_long(2);
-        return;
+        too_long(rt, 2);
+        return Ok(());
     }
     let mut types = type_table();
     let mut query = query_table();
     let mut work = work_table();
-    outcome(job, &values[..n], &mut types, &mut query, &mut work);
+    outcome(
+        &mut rt.stdout(),
+        job,
+        &values[..n],
+        &mut types,
+        &mut query,
+        &mut work,
+    )
 }
 
 // The job of the first argument's file, on the values of the second's.
-fn run() {
+fn run(rt: HostRuntime) -> io::Result<()> {
     let mut job = job_room();
-    let got = load(1, &mut job);
+    let got = load(rt, 1, &mut job);
     let n = got.bytes;
-    if got.failed {
-        return;
+    if got.failed.is_some() {
+        return Ok(());
     }
-    run_on(&job[..n]);
+    run_on(rt, &job[..n])
 }
 
-fn main() {
-    if os::arg_count() != 3 {
-        io::write_all(STDERR_FILENO, b"usage: ember_run JOB VALUES\n");
-        return;
+// Whether the program has such an argument, however long.
+fn is_given(rt: HostRuntime, i: usize) -> bool {
+    let mut byte = [0u8; 1];
+    !matches!(rt.arg(i, &mut byte), Err(FillError::NotPresent))
+}
+
+fn main(rt: HostRuntime) -> io::Result<()> {
+    if !is_given(rt, 2) || is_given(rt, 3) {
+        let _ = rt.stderr().write_all(b"usage: ember_run JOB VALUES\n");
+        return Ok(());
     }
-    run();
+    run(rt)
 }

@@ -5,7 +5,8 @@
 
 ghost use Rattle.std.specs.Prelude.{◌≡◌, length};
 
-use libc::STDIN_FILENO;
+use std::io;
+use std::io::Write;
 use typed::Answer;
 
 // Room for the job, and the two tables.
@@ -28,13 +29,18 @@ fn query_table() -> [u16; 4096]
 }
 
 // An accepted job: its entries, then its result.
-fn accepted(types: &[u16], count: usize, res: usize) {
-    report::table(types, count);
-    report::result(res);
+fn accepted<W: Write>(out: &mut W, types: &[u16], count: usize, res: usize) -> io::Result<()> {
+    report::table(out, types, count)?;
+    report::result(out, res)
 }
 
 // The operation on a job, and what is printed of it.
-fn outcome(job: &[u8], types: &mut [u16], query: &mut [u16]) {
+fn outcome<W: Write>(
+    out: &mut W,
+    job: &[u8],
+    types: &mut [u16],
+    query: &mut [u16],
+) -> io::Result<()> {
     let typed = emberstitch::type_job(job, types, query);
     let answer = typed.answer;
     match answer {
@@ -42,15 +48,17 @@ fn outcome(job: &[u8], types: &mut [u16], query: &mut [u16]) {
             result,
             types: count,
             nodes: _,
-        } => accepted(types, count, result),
-        Answer::Refused { number, place } => report::refused(number, place),
+        } => accepted(out, types, count, result),
+        Answer::Refused { number, place } => report::refused(out, number, place),
     }
 }
 
-fn main() {
+// A read that fails ends the job, as its end does.
+fn main(rt: HostRuntime) -> io::Result<()> {
     let mut job = job_room();
-    let n = io::read_full(STDIN_FILENO, &mut job);
+    let got = intake::fill(&mut rt.stdin(), &mut job);
+    let n = got.bytes;
     let mut types = type_table();
     let mut query = query_table();
-    outcome(&job[..n], &mut types, &mut query);
+    outcome(&mut rt.stdout(), &job[..n], &mut types, &mut query)
 }

@@ -92,10 +92,9 @@ fn number_of(told: Answer) -> u64
     }
 }
 
-// What the layout engine, in C, calls: answers a job into a buffer, behind it tables of full capacity. The number is the answer's length, or 2^32 times
-// the refusal plus its place, and then every byte of the buffer is zero.
-#[unsafe(no_mangle)]
-pub extern "C" fn emberstitch_answer(job: &[u8], answer: &mut [u8]) -> u64
+// What the layout engine, in C, calls by way of `emberstitch_c`: answers a job into a buffer, behind it tables of full capacity. The number is the answer's
+// length, or 2^32 times the refusal plus its place, and then every byte of the buffer is zero.
+pub fn emberstitch_answer(job: &[u8], answer: &mut [u8]) -> u64
     ensures { Call job.now (length answer.old) result answer.new }
 {
     let mut types = [0u16; 12288];

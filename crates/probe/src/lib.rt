@@ -1,4 +1,4 @@
-// Every public operation for C, over tables of any length: for tests and benchmarks alone. Users link `emberstitch`, which has the one call that they need.
+// Every public operation for C, over tables of any length: for tests and benchmarks alone. Users link `emberstitch_c`, which has the one call that they need.
 // Each call leaves its answer in `out`, as much of it as there is room for: the refusal or 0, its place, how many type entries and query nodes there are,
 // the entry of the result's type, the answer file's length or how many forest entries a run's result has, how many definitions and declared variables there
 // are; from 8 on 64 definitions, from 72 on the three words of 16 variables; at 120 a run's first entry. It is 0 for what the operation does not tell.

@@ -1,2 +1,3 @@
 -- Laws of lines and pages.
 pub mod Lines
+pub mod Pages

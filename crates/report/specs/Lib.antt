@@ -1,2 +1,3 @@
--- The lines of a report, as bytes.
+-- The lines of a report, as bytes, and the page that they are gathered on.
 pub mod Text
+pub mod Pages

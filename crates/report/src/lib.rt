@@ -1,14 +1,24 @@
 // What the programs print: a line for each entry of a type table, or of a stretch of a work table, then a line with the result; or a refusal alone.
-// Lines are gathered on a page, so that a full table takes a few calls. What stands on the page each contract says; what a call writes none can.
+// Lines are gathered on a page, so that a full table takes a few calls. What stands on the page each contract says, and what a writer then has, where the
+// writer tells what it has.
 #![tactic(auto)]
 
-ghost use Rattle.std.specs.Prelude.{◌≡◌, ◌++◌, ◌+◌, ◌*◌, ◌≤◌, length, take, get_or};
+ghost use Rattle.std.specs.Prelude.{◌≡◌, ◌++◌, ◌+◌, ◌-◌, ◌*◌, ◌/◌, ◌≤◌, length, take, get_or, min, IfOk, OnOk};
 ghost use Rattle.std.proofs.Math.Seq.{paste};
-ghost use Rattle.io.specs.Counts.{IsPrefixLen};
+ghost use Rattle.std.specs.Io.KnownBytes.{Appends};
 ghost use Rattle.meaning.specs.Base.{type_width};
-ghost use Rattle.report.specs.Text.{ended, entry_line, result_line, stretch_line, refused_line};
+ghost use Rattle.report.specs.Text.{spelled, ended, entry_line, entry_lines, stretch_lines, result_line, stretch_line, refused_line};
+ghost use Rattle.report.specs.Pages.{IsPrefixLen, Printed};
 
-use libc::STDOUT_FILENO;
+use std::io;
+use std::io::Write;
+
+// 4,096 zeros.
+fn blank_page() -> [u8; 4096]
+    ensures { 4096 ≡ length result }
+{
+    [0; 4096]
+}
 
 // A text from a place of a page on.
 fn put(page: &mut [u8], at: usize, text: &[u8])
@@ -22,16 +32,31 @@ fn put(page: &mut [u8], at: usize, text: &[u8])
     }
 }
 
-// A number in decimal with a byte behind it, from a place of a page on; the place behind both.
+// The digits of a number in decimal, at most so many, from a place of a page on; the place behind them.
+fn put_digits(page: &mut [u8], at: usize, most: usize, n: usize) -> usize
+    requires { at + most ≤ length page.old }
+    ensures upper_bound { result ≤ at + most }
+    ensures page_after { take result page.new ≡ take at page.old ++ spelled most n }
+{
+    if most == 0 {
+        return at;
+    }
+    if n < 10 {
+        page[at] = b'0' + n as u8;
+        return at + 1;
+    }
+    let end = put_digits(page, at, most - 1, n / 10);
+    page[end] = b'0' + (n % 10) as u8;
+    end + 1
+}
+
+// A number in decimal with a byte behind it, from a place of a page on; the place behind both. 20 digits hold every number of 64 bits.
 fn number(page: &mut [u8], at: usize, n: usize, behind: u8) -> usize
     requires { at + 21 ≤ length page.old }
     ensures upper_bound { result ≤ at + 21 }
     ensures page_after { take result page.new ≡ take at page.old ++ ended n behind }
 {
-    let mut text = [0u8; 20];
-    let k = io::decimal(n as u64, &mut text);
-    put(page, at, &text[..k]);
-    let end = at + k;
+    let end = put_digits(page, at, 20, n);
     page[end] = behind;
     end + 1
 }
@@ -60,53 +85,71 @@ fn entry(page: &mut [u8], at: usize, table: &[u16], e: usize) -> usize
 }
 
 // A page without room for one line more is written out; the place to go on at.
-fn turn(page: &[u8], at: usize) -> usize
+fn turn<W: Write>(out: &mut W, page: &[u8], at: usize) -> io::Result<usize>
     requires at_in_bounds { at ≤ length page.now }
     requires in_bounds { 84 ≤ length page.now }
-    ensures { result + 84 ≤ length page.now }
+    ensures in_bounds { IfOk result (λ next. next + 84 ≤ length page.now) }
+    ensures printed { IfOk result (Printed (W.contents out.old) (W.contents out.new) page.now (take at page.now)) }
 {
     if page.len() - at >= 84 {
-        return at;
+        return Ok(at);
     }
-    io::write_all(STDOUT_FILENO, &page[..at]);
-    0
+    out.write_all(&page[..at])?;
+    Ok(0)
 }
 
 // The lines of a table's entries from one on and before another; where the last page ends.
-fn entries(page: &mut [u8], table: &[u16], first: usize, end: usize) -> usize
+fn entries<W: Write>(
+    out: &mut W,
+    page: &mut [u8],
+    table: &[u16],
+    first: usize,
+    end: usize,
+) -> io::Result<usize>
     requires in_bounds { 84 ≤ length page.old }
     requires first_le_end { first ≤ end }
     requires end_in_bounds { type_width * end ≤ length table.now }
-    ensures { IsPrefixLen result page.new }
+    ensures prefix_len { IfOk result (λ at. IsPrefixLen at page.new) }
+    ensures printed { IfOk result (Printed (W.contents out.old) (W.contents out.new) page.new (entry_lines table.now first (end - first))) }
 {
     let mut at = 0;
     let mut e = first;
     while e < end {
-        let next = turn(page, at);
+        let next = turn(out, page, at)?;
         at = entry(page, next, table, e);
         e += 1;
     }
-    at
+    Ok(at)
 }
 
 fn least(a: usize, b: usize) -> usize
-    ensures { result ≤ b }
+    ensures { result ≡ min a b }
 {
     if a < b { a } else { b }
 }
 
 // Prints a table's entries from one on, so many, as far as the table has them: a line for each.
-pub fn stretch(table: &[u16], first: usize, count: usize) {
-    let mut page = io::buffer();
+pub fn stretch<W: Write>(out: &mut W, table: &[u16], first: usize, count: usize) -> io::Result<()>
+    ensures { OnOk result (Appends (W.contents out.old) (W.contents out.new) (stretch_lines table.now first count)) }
+{
+    let mut page = blank_page();
     let most = table.len() / 3;
     let from = least(first, most);
-    let n = entries(&mut page, table, from, from + least(count, most - from));
-    io::write_all(STDOUT_FILENO, &page[..n]);
+    let n = entries(
+        out,
+        &mut page,
+        table,
+        from,
+        from + least(count, most - from),
+    )?;
+    out.write_all(&page[..n])
 }
 
 // Prints the first entries of a type table.
-pub fn table(types: &[u16], count: usize) {
-    stretch(types, 0, count);
+pub fn table<W: Write>(out: &mut W, types: &[u16], count: usize) -> io::Result<()>
+    ensures { OnOk result (Appends (W.contents out.old) (W.contents out.new) (stretch_lines types.now 0 count)) }
+{
+    stretch(out, types, 0, count)
 }
 
 // The line of the result.
@@ -143,22 +186,28 @@ fn refused_line(page: &mut [u8], refusal: usize, place: usize) -> usize
 }
 
 // Prints the result: the last line of a typed job.
-pub fn result(n: usize) {
-    let mut page = io::buffer();
+pub fn result<W: Write>(out: &mut W, n: usize) -> io::Result<()>
+    ensures { OnOk result (Appends (W.contents out.old) (W.contents out.new) (result_line n)) }
+{
+    let mut page = blank_page();
     let k = result_line(&mut page, n);
-    io::write_all(STDOUT_FILENO, &page[..k]);
+    out.write_all(&page[..k])
 }
 
 // Prints where the result's entries begin and how many they are: the last line of a run.
-pub fn result_at(first: usize, length: usize) {
-    let mut page = io::buffer();
+pub fn result_at<W: Write>(out: &mut W, first: usize, length: usize) -> io::Result<()>
+    ensures { OnOk result (Appends (W.contents out.old) (W.contents out.new) (stretch_line first length)) }
+{
+    let mut page = blank_page();
     let k = stretch_line(&mut page, first, length);
-    io::write_all(STDOUT_FILENO, &page[..k]);
+    out.write_all(&page[..k])
 }
 
 // Prints a refusal: the only line of a refused job.
-pub fn refused(number: u16, place: usize) {
-    let mut page = io::buffer();
+pub fn refused<W: Write>(out: &mut W, number: u16, place: usize) -> io::Result<()>
+    ensures { OnOk result (Appends (W.contents out.old) (W.contents out.new) (refused_line number place)) }
+{
+    let mut page = blank_page();
     let k = refused_line(&mut page, words::wide(number), place);
-    io::write_all(STDOUT_FILENO, &page[..k]);
+    out.write_all(&page[..k])
 }

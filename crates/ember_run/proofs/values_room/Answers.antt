@@ -3,11 +3,7 @@
 use mathlib.Core.Path.{sym}
 use Prim.Native.Nat.{ℕ}
 use lib.ListN.{length-replicate}
-use Rattle.ember_run.proofs.values_room.Statement.{statement}
-use Rattle.ember_run.proofs.values_room.Tie as tie
+use Rattle.ember_run.proofs.values_room.Goals as goal
 
-returns : tie.Need-returns
+pub returns : goal.returns
 returns c = sym {A = ℕ} (length-replicate {0} {A = ℕ} 2097153 0)
-
-pub values-room-spec : {M : Type 1} → statement M
-values-room-spec = tie.close (tie.spec returns)

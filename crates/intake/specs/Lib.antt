@@ -1,0 +1,2 @@
+-- How much of a room is filled.
+pub mod Counts
