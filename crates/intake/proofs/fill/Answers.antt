@@ -13,7 +13,7 @@ loop-at-preserved g c =
     let within : c.loop-at.at + n ≤ length room = omega (arith, c.read_on-got.ensures.in_room, c.read_on-got.auto.room) in (
       within,
       subst
-      (Consumes (g.R.Read.remaining c.args.input.now) (g.R.Read.remaining c.read_on-got.new.input))
-      (ap (λ (s : List ℕ). s ++ take n (drop c.loop-at.at room)) (sym c.read_on-got.ensures.before) ∙ sym (take-add c.loop-at.at n room))
-      (Consumes-trans _ _ _ _ _ c.loop-at.invariant.1 c.read_on-got.ensures.read),
+          (Consumes (g.R.Read.remaining c.args.input.now) (g.R.Read.remaining c.read_on-got.new.input))
+          (ap (λ (s : List ℕ). s ++ take n (drop c.loop-at.at room)) (sym c.read_on-got.ensures.before) ∙ sym (take-add c.loop-at.at n room))
+          (Consumes-trans _ _ _ _ _ c.loop-at.invariant.1 c.read_on-got.ensures.read),
     )
