@@ -10,10 +10,11 @@
 #![tactic(auto)]
 
 ghost use Rattle.std.specs.Prelude.{◌≡◌, true, ℕ, ◌≤◌, ◌<◌, length, get_or, drop};
-ghost use Rattle.io.specs.Counts.{IsPrefixLen};
+ghost use Rattle.intake.specs.Counts.{IsPrefixLen};
 
-use libc::{STDIN_FILENO, STDOUT_FILENO};
 use reading::Given;
+use std::io;
+use std::io::{Read, Write};
 use typed::Typed;
 
 // Tables that are not zero: what the operation promises of a table it promises of every word. They are longer than any job can use.
@@ -41,8 +42,21 @@ fn old_work() -> [u16; 24600]
     [43690; 24600]
 }
 
-// Reads the next n bytes of standard input to the front of a buffer, as many as there are and as it holds; the bytes behind stay.
-fn read_next(buf: &mut [u8], n: usize) -> usize
+// Room for a name, and for a job, a file or values.
+fn name_room() -> [u8; 4096]
+    ensures { 4096 ≡ length result }
+{
+    [0; 4096]
+}
+
+fn file_room() -> [u8; 65536]
+    ensures { 65536 ≡ length result }
+{
+    [0; 65536]
+}
+
+// Reads the next n bytes of the input to the front of a buffer, as many as there are and as it holds; the bytes behind stay.
+fn read_next<R: Read>(input: &mut R, buf: &mut [u8], n: usize) -> usize
     ensures prefix_len { IsPrefixLen result buf.new }
     ensures upper_bound { result ≤ n }
     ensures buf_unchanged { drop n buf.new ≡ drop n buf.old }
@@ -50,7 +64,8 @@ fn read_next(buf: &mut [u8], n: usize) -> usize
     if n > buf.len() {
         return 0;
     }
-    io::read_full(STDIN_FILENO, &mut buf[..n])
+    let got = intake::fill(input, &mut buf[..n]);
+    got.bytes
 }
 
 // Whether all words from a place on are zero.
@@ -95,30 +110,48 @@ fn is_clean_behind(types: &[u16], count: usize, query: &[u16], nodes: usize) -> 
     false
 }
 
-fn tell(clean: bool) {
+fn tell<W: Write>(out: &mut W, clean: bool) -> io::Result<()> {
     if clean {
-        return;
+        return Ok(());
     }
-    io::write_all(STDOUT_FILENO, b"what was lent is not clean\n");
+    out.write_all(b"what was lent is not clean\n")
 }
 
 // ---- Typing
 
 // An accepted job: its entries and its result.
-fn accepted(types: &[u16], count: usize, query: &[u16], nodes: usize, res: usize) {
-    report::table(types, count);
-    report::result(res);
-    tell(is_clean_behind(types, count, query, nodes));
+fn accepted<W: Write>(
+    out: &mut W,
+    types: &[u16],
+    count: usize,
+    query: &[u16],
+    nodes: usize,
+    res: usize,
+) -> io::Result<()> {
+    report::table(out, types, count)?;
+    report::result(out, res)?;
+    tell(out, is_clean_behind(types, count, query, nodes))
 }
 
 // A refused job: the refusal alone.
-fn refused(types: &[u16], query: &[u16], number: u16, place: usize) {
-    report::refused(number, place);
-    tell(is_clean_behind(types, 0, query, 0));
+fn refused<W: Write>(
+    out: &mut W,
+    types: &[u16],
+    query: &[u16],
+    number: u16,
+    place: usize,
+) -> io::Result<()> {
+    report::refused(out, number, place)?;
+    tell(out, is_clean_behind(types, 0, query, 0))
 }
 
 // The operation on a job, and what is printed of it.
-fn type_it(job: &[u8], types: &mut [u16], query: &mut [u16]) {
+fn type_it<W: Write>(
+    out: &mut W,
+    job: &[u8],
+    types: &mut [u16],
+    query: &mut [u16],
+) -> io::Result<()> {
     let typed = emberstitch::type_job(job, types, query);
     let answer = typed.answer;
     match answer {
@@ -126,42 +159,56 @@ fn type_it(job: &[u8], types: &mut [u16], query: &mut [u16]) {
             result,
             types: count,
             nodes,
-        } => accepted(types, count, query, nodes, result),
-        typed::Answer::Refused { number, place } => refused(types, query, number, place),
+        } => accepted(out, types, count, query, nodes, result),
+        typed::Answer::Refused { number, place } => refused(out, types, query, number, place),
     }
 }
 
 // ---- Answering
 
 // A byte in hex, after a space.
-fn print_byte(b: u8) {
-    io::write_all(STDOUT_FILENO, b" ");
-    io::print_hex(STDOUT_FILENO, b as u64, 2);
+fn print_byte<W: Write>(out: &mut W, b: u8) -> io::Result<()> {
+    write!(out, " {b:02x}")
 }
 
 // The first bytes of a buffer, in hex.
-fn print_bytes(bytes: &[u8], n: usize) {
+fn print_bytes<W: Write>(out: &mut W, bytes: &[u8], n: usize) -> io::Result<()> {
     let mut i = 0;
     while i < n {
         if i >= bytes.len() {
-            return;
+            return Ok(());
         }
-        print_byte(bytes[i]);
+        print_byte(out, bytes[i])?;
         i += 1;
     }
+    Ok(())
 }
 
 // An answered job: its file.
-fn answered(types: &[u16], count: usize, query: &[u16], nodes: usize, answer: &[u8], n: usize) {
-    io::write_all(STDOUT_FILENO, b"answer");
-    print_bytes(answer, n);
-    io::write_all(STDOUT_FILENO, b"\n");
-    tell(is_clean_behind(types, count, query, nodes));
-    tell(is_clean_after(answer, n));
+fn answered<W: Write>(
+    out: &mut W,
+    types: &[u16],
+    count: usize,
+    query: &[u16],
+    nodes: usize,
+    answer: &[u8],
+    n: usize,
+) -> io::Result<()> {
+    out.write_all(b"answer")?;
+    print_bytes(out, answer, n)?;
+    out.write_all(b"\n")?;
+    tell(out, is_clean_behind(types, count, query, nodes))?;
+    tell(out, is_clean_after(answer, n))
 }
 
 // The operation on a job, and what is printed of it.
-fn answer_it(job: &[u8], types: &mut [u16], query: &mut [u16], answer: &mut [u8]) {
+fn answer_it<W: Write>(
+    out: &mut W,
+    job: &[u8],
+    types: &mut [u16],
+    query: &mut [u16],
+    answer: &mut [u8],
+) -> io::Result<()> {
     let told = emberstitch::answer_job(job, types, query, answer);
     let kind = told.answer;
     match kind {
@@ -170,10 +217,10 @@ fn answer_it(job: &[u8], types: &mut [u16], query: &mut [u16], answer: &mut [u8]
             result: _,
             types: count,
             nodes,
-        } => answered(types, count, query, nodes, answer, length),
+        } => answered(out, types, count, query, nodes, answer, length),
         answered::Answer::Refused { number, place } => {
-            refused(types, query, number, place);
-            tell(is_clean_after(answer, 0));
+            refused(out, types, query, number, place)?;
+            tell(out, is_clean_after(answer, 0))
         }
     }
 }
@@ -181,24 +228,21 @@ fn answer_it(job: &[u8], types: &mut [u16], query: &mut [u16], answer: &mut [u8]
 // ---- Reading an answer file
 
 // A definition: its number and its type.
-fn print_definition(d: usize, e: u16) {
-    io::write_all(STDOUT_FILENO, b"definition ");
-    io::print_decimal(STDOUT_FILENO, d as u64);
-    io::write_all(STDOUT_FILENO, b" ");
-    io::print_decimal(STDOUT_FILENO, e as u64);
-    io::write_all(STDOUT_FILENO, b"\n");
+fn print_definition<W: Write>(out: &mut W, d: usize, e: u16) -> io::Result<()> {
+    writeln!(out, "definition {d} {e}")
 }
 
 // The first definitions, a line for each.
-fn print_definitions(defs: &[u16], n: usize) {
+fn print_definitions<W: Write>(out: &mut W, defs: &[u16], n: usize) -> io::Result<()> {
     let mut d = 0;
     while d < n {
         if d >= defs.len() {
-            return;
+            return Ok(());
         }
-        print_definition(d, defs[d]);
+        print_definition(out, d, defs[d])?;
         d += 1;
     }
+    Ok(())
 }
 
 // Whether nothing is given behind the definitions.
@@ -212,15 +256,21 @@ fn is_given_clean(given: Given) -> bool {
 }
 
 // An accepted file: its entries, its definitions and its result.
-fn read_back(types: &[u16], count: usize, given: Given, res: usize) {
+fn read_back<W: Write>(
+    out: &mut W,
+    types: &[u16],
+    count: usize,
+    given: Given,
+    res: usize,
+) -> io::Result<()> {
     let defs = given.defs;
-    report::table(types, count);
-    print_definitions(&defs, given.used);
-    report::result(res);
+    report::table(out, types, count)?;
+    print_definitions(out, &defs, given.used)?;
+    report::result(out, res)
 }
 
 // The operation on a file, and what is printed of it. There is no query.
-fn read_it(file: &[u8], types: &mut [u16]) {
+fn read_it<W: Write>(out: &mut W, file: &[u8], types: &mut [u16]) -> io::Result<()> {
     let back = emberstitch::read_answer(file, types);
     let answer = back.answer;
     let given = back.given;
@@ -230,12 +280,12 @@ fn read_it(file: &[u8], types: &mut [u16]) {
             result,
             types: count,
         } => {
-            read_back(types, count, given, result);
-            tell(is_clean_behind(types, count, &none, 0));
+            read_back(out, types, count, given, result)?;
+            tell(out, is_clean_behind(types, count, &none, 0))?;
         }
-        back::Answer::Refused { number, place } => refused(types, &none, number, place),
+        back::Answer::Refused { number, place } => refused(out, types, &none, number, place)?,
     }
-    tell(is_given_clean(given));
+    tell(out, is_given_clean(given))
 }
 
 // ---- Running
@@ -336,25 +386,28 @@ fn is_as_typed(
 
 // The entries of a work table, the values and the result; where the result begins, and how many entries it has. Of more than a table can have nothing is
 // printed, so that the lines are missed.
-fn print_run(work: &[u16], first: usize, length: usize) {
+fn print_run<W: Write>(out: &mut W, work: &[u16], first: usize, length: usize) -> io::Result<()> {
     if first > 8192 {
-        return;
+        return Ok(());
     }
     if length > 8192 {
-        return;
+        return Ok(());
     }
     let end = first + length;
-    report::table(work, end);
-    io::write_all(STDOUT_FILENO, b"first ");
-    io::print_decimal(STDOUT_FILENO, first as u64);
-    io::write_all(STDOUT_FILENO, b" length ");
-    io::print_decimal(STDOUT_FILENO, length as u64);
-    io::write_all(STDOUT_FILENO, b"\n");
-    tell(is_clean(work, 3 * end));
+    report::table(out, work, end)?;
+    writeln!(out, "first {first} length {length}")?;
+    tell(out, is_clean(work, 3 * end))
 }
 
 // The operation on a job and values, and what is printed of it.
-fn run_it(job: &[u8], values: &[u8], types: &mut [u16], query: &mut [u16], work: &mut [u16]) {
+fn run_it<W: Write>(
+    out: &mut W,
+    job: &[u8],
+    values: &[u8],
+    types: &mut [u16],
+    query: &mut [u16],
+    work: &mut [u16],
+) -> io::Result<()> {
     let told = emberstitch::run_job(job, values, types, query, work);
     let answer = told.answer;
     let given = told.given;
@@ -366,13 +419,16 @@ fn run_it(job: &[u8], values: &[u8], types: &mut [u16], query: &mut [u16], work:
             types: count,
             nodes,
         } => {
-            print_run(work, first, length);
-            tell(is_as_typed(job, types, query, given, result, count, nodes));
+            print_run(out, work, first, length)?;
+            tell(
+                out,
+                is_as_typed(job, types, query, given, result, count, nodes),
+            )
         }
         ran::Answer::Refused { number, place } => {
-            refused(types, query, number, place);
-            tell(is_clean(work, 0));
-            tell(is_given_clean(given));
+            refused(out, types, query, number, place)?;
+            tell(out, is_clean(work, 0))?;
+            tell(out, is_given_clean(given))
         }
     }
 }
@@ -380,26 +436,34 @@ fn run_it(job: &[u8], values: &[u8], types: &mut [u16], query: &mut [u16], work:
 // ---- Vectors
 
 // Answering with the front of a buffer. Of a vector with a longer one nothing is printed, so that its lines are missed; so with longer tables below.
-fn answer_within(job: &[u8], types: &mut [u16], query: &mut [u16], answer: &mut [u8], n: usize) {
+fn answer_within<W: Write>(
+    out: &mut W,
+    job: &[u8],
+    types: &mut [u16],
+    query: &mut [u16],
+    answer: &mut [u8],
+    n: usize,
+) -> io::Result<()> {
     if n > answer.len() {
-        return;
+        return Ok(());
     }
-    answer_it(job, types, query, &mut answer[..n]);
+    answer_it(out, job, types, query, &mut answer[..n])
 }
 
 // Running with the front of a work table.
-fn run_within(
+fn run_within<W: Write>(
+    out: &mut W,
     job: &[u8],
     values: &[u8],
     types: &mut [u16],
     query: &mut [u16],
     work: &mut [u16],
     n: usize,
-) {
+) -> io::Result<()> {
     if n > work.len() {
-        return;
+        return Ok(());
     }
-    run_it(job, values, types, query, &mut work[..n]);
+    run_it(out, job, values, types, query, &mut work[..n])
 }
 
 // What stands before the name of a vector.
@@ -437,84 +501,108 @@ fn head_of(bytes: &[u8; 16]) -> Head {
 }
 
 // The operation of a vector.
-fn outcome(head: Head, job: &[u8], values: &[u8], types: &mut [u16], query: &mut [u16]) {
+fn outcome<W: Write>(
+    out: &mut W,
+    head: Head,
+    job: &[u8],
+    values: &[u8],
+    types: &mut [u16],
+    query: &mut [u16],
+) -> io::Result<()> {
     let operation = head.operation;
     match operation {
-        0 => type_it(job, types, query),
+        0 => type_it(out, job, types, query),
         1 => {
             let mut answer = old_answer();
-            answer_within(job, types, query, &mut answer, head.answer);
+            answer_within(out, job, types, query, &mut answer, head.answer)
         }
-        2 => read_it(job, types),
+        2 => read_it(out, job, types),
         _ => {
             let mut work = old_work();
-            run_within(job, values, types, query, &mut work, head.work);
+            run_within(out, job, values, types, query, &mut work, head.work)
         }
     }
 }
 
 // The same with the front of the type table and of the query table.
-fn within(head: Head, job: &[u8], values: &[u8], types: &mut [u16], query: &mut [u16]) {
+fn within<W: Write>(
+    out: &mut W,
+    head: Head,
+    job: &[u8],
+    values: &[u8],
+    types: &mut [u16],
+    query: &mut [u16],
+) -> io::Result<()> {
     let a = head.types;
     let b = head.query;
     if a > types.len() {
-        return;
+        return Ok(());
     }
     if b > query.len() {
-        return;
+        return Ok(());
     }
-    outcome(head, job, values, &mut types[..a], &mut query[..b]);
+    outcome(out, head, job, values, &mut types[..a], &mut query[..b])
 }
 
 // Prints the name that comes next; whether it was there.
-fn title(n: usize) -> bool {
-    let mut name = io::buffer();
-    let got = read_next(&mut name, n);
-    io::write_all(STDOUT_FILENO, &name[..got]);
-    io::write_all(STDOUT_FILENO, b"\n");
-    got == n
+fn title<R: Read, W: Write>(input: &mut R, out: &mut W, n: usize) -> io::Result<bool> {
+    let mut name = name_room();
+    let got = read_next(input, &mut name, n);
+    out.write_all(&name[..got])?;
+    out.write_all(b"\n")?;
+    Ok(got == n)
 }
 
 // Runs the job that comes next, on the values that come then; whether they were there.
-fn run(head: Head) -> bool {
-    let mut job = io::large_buffer();
-    let got = read_next(&mut job, head.job);
+fn run<R: Read, W: Write>(input: &mut R, out: &mut W, head: Head) -> io::Result<bool> {
+    let mut job = file_room();
+    let got = read_next(input, &mut job, head.job);
     if got < head.job {
-        return false;
+        return Ok(false);
     }
-    let mut values = io::large_buffer();
-    let more = read_next(&mut values, head.values);
+    let mut values = file_room();
+    let more = read_next(input, &mut values, head.values);
     if more < head.values {
-        return false;
+        return Ok(false);
     }
     let mut types = old_types();
     let mut query = old_query();
-    within(head, &job[..got], &values[..more], &mut types, &mut query);
-    true
+    within(
+        out,
+        head,
+        &job[..got],
+        &values[..more],
+        &mut types,
+        &mut query,
+    )?;
+    Ok(true)
 }
 
 // Reads and runs the next vector; whether there was one.
-fn vector() -> bool {
+fn vector<R: Read, W: Write>(input: &mut R, out: &mut W) -> io::Result<bool> {
     let mut bytes = [0u8; 16];
-    let got = io::read_full(STDIN_FILENO, &mut bytes);
-    if got < 16 {
-        return false;
+    let got = intake::fill(input, &mut bytes);
+    if got.bytes < 16 {
+        return Ok(false);
     }
     let head = head_of(&bytes);
-    if title(head.name) {
-        return run(head);
+    if title(input, out, head.name)? {
+        return run(input, out, head);
     }
-    false
+    Ok(false)
 }
 
 // A proved loop has to end, and nothing says that the input does: so many vectors no file has.
-fn main() {
+fn main(rt: HostRuntime) -> io::Result<()> {
+    let mut input = rt.stdin();
+    let mut out = rt.stdout();
     let mut left: u64 = 1000000;
     while left > 0 {
-        if vector() {
+        if vector(&mut input, &mut out)? {
             left -= 1;
         } else {
-            return;
+            return Ok(());
         }
     }
+    Ok(())
 }
