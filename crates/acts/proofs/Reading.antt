@@ -20,9 +20,7 @@ use Rattle.grow.specs.Grow.{Shows}
 use Rattle.grow.proofs.Entries.{shows_name, name_low}
 use Rattle.acts.specs.Acts.{Part, prime_of, content_of, sift_of, act_of}
 use Rattle.acts.specs.declared.Mode.{Mode}
-use Rattle.acts.specs.declared.Mode.TheVariants as Mode
 use Rattle.acts.specs.declared.Act.{Act}
-use Rattle.acts.specs.declared.Act.TheVariants as Act
 
 -- no atom below 4 is ()
 below : {k : ℕ} → k < 4 → k ≢ 2 → k ≢ 3 → Other k

@@ -9,9 +9,7 @@ use Rattle.meaning.specs.Shapes.{Shape}
 use Rattle.meaning.specs.Rules.{Rule, prime, content, sift}
 use Rattle.words.specs.Tables.{table_of}
 use Rattle.acts.specs.declared.Mode.{Mode}
-use Rattle.acts.specs.declared.Mode.TheVariants as Mode
 use Rattle.acts.specs.declared.Act.{Act}
-use Rattle.acts.specs.declared.Act.TheVariants as Act
 
 -- e is one of n entries in the words ws, formed with the definitions D
 pub record Place (D : Defs) (ws : List ℕ) (n e : ℕ) : Type 0 where

@@ -12,7 +12,6 @@ use borrow.Author.Tests.{leb-true, leb-false}
 use Rattle.meaning.specs.Base.{Out, ok, refused, ◌>>=◌, require, zeros, Caps}
 use Rattle.meaning.specs.Typing.{Typed, type_job}
 use Rattle.meaning.specs.Answers.{answer_file, fitted, answer_job}
-use Rattle.answers.specs.declared.Written.{Written}
 use Rattle.answers.specs.declared.Written.TheVariants.{Bytes}
 use Rattle.answers.specs.Says.{Left}
 

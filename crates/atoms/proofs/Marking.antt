@@ -10,7 +10,7 @@ use lib.ListN.{length, get_or, set, length-set}
 use lib.Seq.{get_or-set_same, get_or-set_other}
 use Rattle.meaning.specs.Base.{At, find}
 use Rattle.meaning.specs.Kinds.{type·union}
-use Rattle.meaning.specs.Types.{Entry, Table, Defs, entry_of}
+use Rattle.meaning.specs.Types.{Table, Defs, entry_of}
 use Rattle.meaning.specs.Shapes.{shape, is_atoms}
 use Rattle.meaning.specs.Formed.{Formed}
 use Rattle.words.specs.Tables.{table_of}

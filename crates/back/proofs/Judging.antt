@@ -7,7 +7,7 @@ use mathlib.Core.Option.{Option, none, some}
 use Prim.Native.Nat.{ℕ, ◌-◌}
 use lib.ListN.{length, take}
 use lib.Seq.{take_at}
-use Rattle.meaning.specs.Base.{Out, ok, refused, ◌>>=◌, require, given, otherwise, is_some, padded, zeros, caps_of}
+use Rattle.meaning.specs.Base.{Out, ok, refused, ◌>>=◌, require, otherwise, is_some, padded, zeros, caps_of}
 use Rattle.meaning.specs.Types.{table_words}
 use Rattle.meaning.specs.Records as Records
 use Rattle.meaning.specs.Records.{Tables, read_records}
@@ -26,7 +26,7 @@ use Rattle.reading.specs.Says as Reads
 use Rattle.reading.proofs.Leaving.{Finished, answer_done, answer_ended, answer_refused}
 use Rattle.checks.proofs.Answering.{ready_given, ready_few}
 use Rattle.jobs.proofs.Checking.{held_ready}
-use Rattle.back.specs.declared.Answer.TheVariants.{Accepted, Refused}
+use Rattle.back.specs.declared.Answer.TheVariants.{Accepted}
 use Rattle.back.specs.declared.Back.{Back}
 use Rattle.back.specs.Says.{back_of, Ready, judged, ending, Left, Holds, Settled}
 

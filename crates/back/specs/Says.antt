@@ -15,7 +15,6 @@ use Rattle.reading.specs.Says.{given_of, nothing_given}
 use Rattle.back.specs.declared.Answer.TheVariants.{Accepted, Refused}
 use Rattle.back.specs.declared.Back.{Back}
 use Rattle.back.specs.declared.Verdict.{Verdict}
-use Rattle.back.specs.declared.Verdict.TheVariants as Verdict
 
 -- the answer: the result and how many entries there are, with the definitions; or the refusal, with nothing beside it
 unfoldable pub back_of : Out Answers.Back → Back

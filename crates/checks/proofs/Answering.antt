@@ -17,7 +17,6 @@ use Rattle.meaning.proofs.Accepting.{types_formed}
 use Rattle.words.specs.Tables.{table_of, code_of, vars_of}
 use Rattle.words.specs.Says.{found}
 use Rattle.words.specs.declared.Found.{Found}
-use Rattle.words.specs.declared.Found.TheVariants as Found
 use Rattle.words.proofs.Tables.{table_length, code_length}
 use Rattle.guard.specs.Says.{Given}
 use Rattle.atoms.specs.Marks.{Typed, Scoped}

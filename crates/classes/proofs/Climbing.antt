@@ -13,7 +13,7 @@ use lib.Dec.{eqb}
 use lib.ListN.{length, get_or, set, take, drop, length-set, get_or-replicate, get_or-append}
 use lib.Seq.{get_or-set_same, get_or-set_other, length-take-le, length_front}
 use Rattle.meaning.specs.Base.{zeros}
-use Rattle.meaning.specs.Types.{Table, Defs, at}
+use Rattle.meaning.specs.Types.{Table, Defs}
 use Rattle.meaning.specs.Formed.{Formed}
 use Rattle.meaning.specs.Shapes.{Class, one, maybe, more, any, shape, quant}
 use Rattle.meaning.proofs.Guard.{height, height_falls, height_most, steps_low, count_below, count_lt}

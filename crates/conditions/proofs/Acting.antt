@@ -12,11 +12,8 @@ use Rattle.meaning.specs.Texts.{Here, here, Read, one, cond_no, cond_nodes}
 use Rattle.words.specs.Tables.{code_of}
 use Rattle.steps.specs.Says.{went_of, got_of, Onward, WentOn, GotOn, Goes, Gives}
 use Rattle.steps.specs.declared.Went.{Went}
-use Rattle.steps.specs.declared.Went.TheVariants as Went
 use Rattle.steps.specs.declared.Got.{Got}
-use Rattle.steps.specs.declared.Got.TheVariants as Got
 use Rattle.conditions.specs.declared.Act.{Act}
-use Rattle.conditions.specs.declared.Act.TheVariants as Act
 use Rattle.conditions.specs.Frames.{Acted, refuses, done, Moves, Room, Builds, Leaf}
 
 -- WHERE THE TEXT GOES ON, from a lower offset on

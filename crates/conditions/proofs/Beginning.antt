@@ -21,7 +21,6 @@ use Rattle.steps.specs.Says.{Onward}
 use Rattle.steps.proofs.Choosing.{choose_first, choose_later, choose_none}
 use Rattle.steps.proofs.Expecting.{token_onward}
 use Rattle.conditions.specs.declared.Act.{Act}
-use Rattle.conditions.specs.declared.Act.TheVariants as Act
 use Rattle.conditions.specs.Frames.{equal_with, equal_to, equal_at, empty_at, close_at, Frame, denies, before, cont, under, Waits, Acted, refuses, more, Moves, Room, Builds, Leaf, Opens, full, room, Begins}
 use Rattle.conditions.proofs.Acting.{moves_lower, leaf_built}
 

@@ -14,9 +14,7 @@ use Rattle.meaning.specs.Texts.{here, Read, cond_at, cond_no, cond_nodes}
 use Rattle.words.specs.Tables.{code_of}
 use Rattle.rows.specs.Says.{Reads, refuses, makes}
 use Rattle.rows.specs.declared.Part.{Part}
-use Rattle.rows.specs.declared.Part.TheVariants as Part
 use Rattle.conditions.specs.declared.Act.{Act}
-use Rattle.conditions.specs.declared.Act.TheVariants as Act
 use Rattle.conditions.specs.Says.{Conditions}
 use Rattle.conditions.specs.Frames as Frames
 use Rattle.conditions.proofs.Acting.{moves_lower}

@@ -10,9 +10,7 @@ use Rattle.meaning.specs.Queries.{equal, empty}
 use Rattle.meaning.specs.Texts.{here, one, variable_at, cond_nodes}
 use Rattle.steps.specs.Says.{Gives}
 use Rattle.steps.specs.declared.Got.{Got}
-use Rattle.steps.specs.declared.Got.TheVariants as Got
 use Rattle.conditions.specs.declared.Act.{Act}
-use Rattle.conditions.specs.declared.Act.TheVariants as Act
 use Rattle.conditions.specs.Frames.{equal_with, empty_at, Builds, Leaf}
 use Rattle.conditions.proofs.Acting.{got_inside, leaf_got, leaf_not_got, leaf_built, leaf_lower}
 

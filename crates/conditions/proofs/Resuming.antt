@@ -14,9 +14,7 @@ use Rattle.meaning.specs.Tokens
 use Rattle.meaning.specs.Texts.{Here, here, one, expect, cond_at, cond_no, cond_nodes}
 use Rattle.steps.specs.Says.{Goes}
 use Rattle.steps.specs.declared.Went.{Went}
-use Rattle.steps.specs.declared.Went.TheVariants as Went
 use Rattle.conditions.specs.declared.Act.{Act}
-use Rattle.conditions.specs.declared.Act.TheVariants as Act
 use Rattle.conditions.specs.Frames.{close_at, Frame, denies, before, behind, cont, under, Waits, Known, Acted, refuses, more, Builds, Turns, Closes, Resumes}
 use Rattle.conditions.proofs.Acting.{moves_lower, built_acted, built_moves, went_inside, went_on, went_not}
 

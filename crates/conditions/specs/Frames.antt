@@ -10,7 +10,6 @@ use Rattle.words.specs.Tables.{code_of}
 use Rattle.rows.specs.Says.{Reads}
 use Rattle.rows.specs.declared.Part.{Part}
 use Rattle.conditions.specs.declared.Act.{Act}
-use Rattle.conditions.specs.declared.Act.TheVariants as Act
 
 -- THE REST of a condition behind its first token, or behind a part of it
 module _ (s : List ℕ) where

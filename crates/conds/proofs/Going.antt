@@ -20,9 +20,7 @@ use Rattle.scope.specs.Shows.{Shows}
 use Rattle.uses.specs.Counts.{Coded}
 use Rattle.conds.specs.Says.{verdict, cond_of, Says, Judges}
 use Rattle.conds.specs.declared.Cond.{Cond}
-use Rattle.conds.specs.declared.Cond.TheVariants as Cond
 use Rattle.conds.specs.declared.Verdict.{Verdict}
-use Rattle.conds.specs.declared.Verdict.TheVariants as Verdict
 use Rattle.conds.proofs.Looking.{in_scope, then, judged_first}
 
 -- WHAT A CONDITION NAMES. The number of its node

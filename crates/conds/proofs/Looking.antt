@@ -16,7 +16,6 @@ use Rattle.scope.specs.declared.Var.{Var}
 use Rattle.scope.proofs.Slots.{slot_none, slot_free}
 use Rattle.conds.specs.Says.{verdict, Judges, Answers}
 use Rattle.conds.specs.declared.Verdict.{Verdict}
-use Rattle.conds.specs.declared.Verdict.TheVariants as Verdict
 
 -- an answer from what was looked up is the answer from what is found
 pub looked : {A : Type 0} (f : Option Records.Var → Out A) (v : ℕ) {s t : Scope} {w : ℕ} (x : Var) {told : Out A} → v ≤ 63 → w ≡ v → (t ≡ s) × (var_of x ≡ slot_var (get_or s.slots w 0)) → told ≡ f (var_of x) → Answers s t told (λ g. f (find v g))

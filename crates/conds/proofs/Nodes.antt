@@ -9,13 +9,11 @@ use lib.ListN.{get_or}
 use Rattle.meaning.specs.Base.{code_width, find}
 use Rattle.meaning.specs.Kinds
 use Rattle.meaning.specs.Records.{node}
-use Rattle.meaning.specs.Queries as Queries
 use Rattle.meaning.specs.Queries.{expand_cond}
 use Rattle.words.specs.Tables.{node_in}
 use Rattle.words.specs.declared.Node as Words
 use Rattle.conds.specs.Says.{Says}
 use Rattle.conds.specs.declared.Cond.{Cond}
-use Rattle.conds.specs.declared.Cond.TheVariants as Cond
 
 -- what a node says, at the kind's number
 pub says_kind : (n a b d : ℕ) {k j : ℕ} {c : Cond} → k ≡ j → Says n (node j a b d) c → Says n (node k a b d) c

@@ -20,9 +20,7 @@ use Rattle.scope.specs.declared.Scope.{Scope}
 use Rattle.scope.proofs.Slots.{slot_free}
 use Rattle.conds.specs.Says.{verdict, found, Answers}
 use Rattle.conds.specs.declared.Verdict.{Verdict}
-use Rattle.conds.specs.declared.Verdict.TheVariants as Verdict
 use Rattle.conds.specs.declared.Found.{Found}
-use Rattle.conds.specs.declared.Found.TheVariants as Found
 
 -- EVERY SCOPE SHOWS ONE: the variables below n that its words say
 module _ (slots : List ℕ) where

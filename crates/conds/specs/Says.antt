@@ -9,11 +9,8 @@ use Rattle.meaning.specs.Typing as Typing
 use Rattle.scope.specs.Shows.{Shows}
 use Rattle.scope.specs.declared.Scope.{Scope}
 use Rattle.conds.specs.declared.Verdict.{Verdict}
-use Rattle.conds.specs.declared.Verdict.TheVariants as Verdict
 use Rattle.conds.specs.declared.Found.{Found}
-use Rattle.conds.specs.declared.Found.TheVariants as Found
 use Rattle.conds.specs.declared.Cond.{Cond}
-use Rattle.conds.specs.declared.Cond.TheVariants as Cond
 
 -- nothing to refuse, or a refusal
 abbrev pub verdict : Verdict → Out (Unit {0})

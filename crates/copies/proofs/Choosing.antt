@@ -11,7 +11,6 @@ use Rattle.meaning.proofs.Forests.{join_end, join_assoc, size_join, below_join, 
 use Rattle.spans.specs.Shows.{part}
 use Rattle.copies.specs.Fills.{first, stride_of, spread, Filled, Copied, done, Stretch}
 use Rattle.copies.specs.declared.Made.{Made}
-use Rattle.copies.specs.declared.Made.TheVariants as Made
 use Rattle.copies.proofs.Filling.{filled_one, filled_length, filled_self, copied_done, copied_full, full_is, copied_as}
 use Rattle.copies.proofs.Firsts.{others, within, some, stretch_none, tree_size, tree_inside, tree_words, others_words, under_words}
 

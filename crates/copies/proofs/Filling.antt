@@ -13,7 +13,6 @@ use Rattle.words.specs.Tables.{stored}
 use Rattle.words.proofs.Rows.{zeros_length}
 use Rattle.copies.specs.Fills.{Filled, Copied, done, full}
 use Rattle.copies.specs.declared.Made.{Made}
-use Rattle.copies.specs.declared.Made.TheVariants as Made
 use Rattle.copies.proofs.Lent.{drop_zeros, lent, back}
 
 -- what follows from two answers that differ

@@ -12,7 +12,6 @@ use Rattle.meaning.proofs.Forests.{join_end, join_assoc, select_join, words_dete
 use Rattle.spans.specs.Shows.{part}
 use Rattle.copies.specs.Fills.{first, spread, Filled, Copied, done, Stretch}
 use Rattle.copies.specs.declared.Made.{Made}
-use Rattle.copies.specs.declared.Made.TheVariants as Made
 use Rattle.copies.proofs.Filling.{filled_none, filled_length, filled_self, copied_done, copied_as}
 use Rattle.copies.proofs.Firsts.{others, within, some, stretch_none, tree_size, tree_inside, others_words, within_words}
 use Rattle.copies.proofs.Choosing.{full_more}

@@ -1,12 +1,11 @@
 -- What copies leave at the front of a part that was all zeros; the first tree of a forest, and the stretch of a table that a forest takes.
 -- Assumes nothing.
-use Rattle.std.specs.Prelude.{◌≡◌, Bool, true, false, List, ◌++◌, ℕ, ◌+◌, ◌*◌, ◌-◌, ◌≤◌, ◌<◌, eqb, length}
+use Rattle.std.specs.Prelude.{◌≡◌, Bool, true, false, List, ◌++◌, ℕ, ◌*◌, ◌-◌, ◌≤◌, ◌<◌, eqb, length}
 use Rattle.meaning.specs.Base.{zeros, forest_width}
 use Rattle.meaning.specs.Kinds.{forest·text}
 use Rattle.meaning.specs.Forests.{Forest, end, leaf, tree, Head, text, label, size, forest_words, below}
 use Rattle.spans.specs.Shows.{part}
 use Rattle.copies.specs.declared.Made.{Made}
-use Rattle.copies.specs.declared.Made.TheVariants as Made
 
 -- the top of a tree by the first two words of its entry
 unfoldable pub head_in : ℕ → ℕ → Head

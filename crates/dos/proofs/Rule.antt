@@ -18,7 +18,6 @@ use Rattle.reach.proofs.Steps.{given_taken}
 use Rattle.reach.proofs.Atoms.{atoms_one, atoms_none}
 use Rattle.grow.specs.Grow.{Ready, Left}
 use Rattle.grow.specs.declared.Made.{Made}
-use Rattle.grow.specs.declared.Made.TheVariants as Made
 use Rattle.grow.proofs.Entries.{new_star}
 use Rattle.grow.proofs.Steps.{left_here, left_ready, left_stop, left_after}
 use Rattle.dos.proofs.Uniting.{Adds, United}

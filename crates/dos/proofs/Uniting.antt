@@ -15,7 +15,6 @@ use Rattle.reach.specs.Atoms.{picked, Next}
 use Rattle.reach.proofs.Atoms.{next_to, unions_one, unions_none}
 use Rattle.grow.specs.Grow.{Ready, Left, New}
 use Rattle.grow.specs.declared.Made.{Made}
-use Rattle.grow.specs.declared.Made.TheVariants as Made
 use Rattle.grow.proofs.Entries.{new_union}
 use Rattle.grow.proofs.Steps.{left_here, left_stop, left_on, after_ok, kept_table, appended, appended_grows}
 

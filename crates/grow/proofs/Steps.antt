@@ -8,7 +8,7 @@ use native.Mathlib.Decide.{ℕ_discrete, dec_lt}
 use lib.ListN.{length, take, length-append}
 use lib.Seq.{take-length, take-append-le}
 use Rattle.meaning.specs.Base.{Out, ok, refused, type_capacity}
-use Rattle.meaning.specs.Types.{Entry, Table, Defs, at}
+use Rattle.meaning.specs.Types.{Entry, Table, Defs}
 use Rattle.meaning.specs.Rules.{Rule, after, append}
 use Rattle.meaning.proofs.Lists.{Grows, grows_length}
 use Rattle.meaning.proofs.Ends.{Ends, ends_ok}
@@ -17,7 +17,6 @@ use Rattle.words.specs.Tables.{table_of}
 use Rattle.words.proofs.Tables.{table_length}
 use Rattle.grow.specs.Grow.{Ready, answer_of, After, Left}
 use Rattle.grow.specs.declared.Made.{Made}
-use Rattle.grow.specs.declared.Made.TheVariants as Made
 use Rattle.grow.proofs.Growth.{append_room, append_full}
 
 -- AN ANSWER without change

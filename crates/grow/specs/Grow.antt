@@ -9,7 +9,6 @@ use Rattle.words.specs.Tables.{table_of}
 use Rattle.words.specs.declared.Entry as Words
 use Rattle.classes.specs.Classes.{Filled}
 use Rattle.grow.specs.declared.Made.{Made}
-use Rattle.grow.specs.declared.Made.TheVariants as Made
 
 -- the words w are those of entry e
 pub record Shows (T : Table) (e : ℕ) (w : Words.Entry) : Type 0 where

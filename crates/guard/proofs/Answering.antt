@@ -14,7 +14,6 @@ use Rattle.meaning.specs.Reach.{loops}
 use Rattle.meaning.specs.Checks.{undefined_name, check_types}
 use Rattle.meaning.proofs.Lists.{at_is}
 use Rattle.words.specs.declared.Found.{Found}
-use Rattle.words.specs.declared.Found.TheVariants as Found
 use Rattle.words.specs.Says.{found}
 use Rattle.words.specs.Tables.{table_of}
 use Rattle.words.proofs.Tables.{table_length}

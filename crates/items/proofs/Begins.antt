@@ -1,20 +1,19 @@
 -- An item that is to be read, by its first token.
 -- Assumes nothing.
 use mathlib.Core.Path.{◌≡◌, refl, sym, ap, subst, ◌∙◌}
-use mathlib.Core.Bool.{true, false}
+use mathlib.Core.Bool.{true}
 use mathlib.Core.List.{List}
-use Prim.Native.Nat.{ℕ, suc, ◌+◌, ◌≤◌, ◌<◌}
+use Prim.Native.Nat.{ℕ, suc, ◌≤◌}
 use native.Mathlib.Omega.{arith}
 use lib.ListN.{length}
 use borrow.Author.Tests.{ne_eqb}
-use Rattle.meaning.specs.Base.{Out, ok, refused, ◌>>=◌, find}
+use Rattle.meaning.specs.Base.{refused, ◌>>=◌, find}
 use Rattle.meaning.specs.Tokens.{token_at}
 use Rattle.meaning.specs.Texts.{Here, here, Read, opened, variable_at, cond_at, group_at, item_by, query_at}
 use Rattle.tokens.specs.declared.Placed.{Placed}
 use Rattle.tokens.specs.Says.{kind_of, Tells}
 use Rattle.items.specs.declared.Act.{Act}
-use Rattle.items.specs.declared.Act.TheVariants as Act
-use Rattle.items.specs.Machine.{Frame, item_at, cont}
+use Rattle.items.specs.Machine.{item_at, cont}
 use Rattle.items.specs.Says.{Acts, Does, opening, text_behind, variable_item, group_behind, element_at, sign_behind, bound_behind, body_behind, when_behind}
 use Rattle.items.proofs.Outs.{opened_then, at_here}
 use Rattle.items.proofs.Items.{token_on}

@@ -5,14 +5,13 @@ use mathlib.Core.List.{List, [], ◌∷◌, ◌++◌, append-nil}
 use Prim.Native.Nat.{ℕ, zero, suc, ◌+◌, ◌≤◌, ◌<◌, min}
 use native.Mathlib.Omega.{arith}
 use lib.ListN.{length}
-use Rattle.meaning.specs.Base.{Out, ok, refused, ◌>>=◌}
+use Rattle.meaning.specs.Base.{ok, refused, ◌>>=◌}
 use Rattle.meaning.specs.Records.{Node}
 use Rattle.meaning.specs.Queries.{Query}
 use Rattle.meaning.specs.Texts.{Here, here, Read, query_at, query_no, query_nodes}
 use Rattle.words.specs.Tables.{code_of}
 use Rattle.items.specs.declared.Act.{Act}
-use Rattle.items.specs.declared.Act.TheVariants as Act
-use Rattle.items.specs.Machine.{Frame, cont, held, rows_of, opens, depth, pairs, Stands, flat, Deep, Shown, many}
+use Rattle.items.specs.Machine.{Frame, cont, held, rows_of, depth, pairs, Stands, flat, Deep, Shown, many}
 use Rattle.items.specs.Says as Says
 use Rattle.items.specs.Says.{Well, Stops, Made, Wants, Acts, Emitted, Does}
 use Rattle.items.proofs.Frames.{well_later, well_on}

@@ -1,31 +1,28 @@
 -- What each frame does behind the item that was made.
 -- Assumes nothing.
-use mathlib.Core.Path.{◌≡◌, refl, sym, ap, subst, ◌∙◌}
+use mathlib.Core.Path.{◌≡◌, refl, sym, ap, ◌∙◌}
 use mathlib.Core.Bool.{Bool, true, false}
 use mathlib.Core.List.{List, [], ◌∷◌, ◌++◌, append_assoc, append-nil}
 use Prim.Native.Nat.{ℕ, zero, suc, ◌+◌, ◌-◌, ◌≤◌, ◌<◌, min}
 use native.Mathlib.Omega.{arith}
 use lib.ListN.{length}
 use borrow.Author.Tests.{ne_eqb}
-use Rattle.meaning.specs.Base.{Out, ok, refused, ◌>>=◌, find}
+use Rattle.meaning.specs.Base.{ok, ◌>>=◌, find}
 use Rattle.meaning.specs.Records.{Node, node}
 use Rattle.meaning.specs.Queries.{Cond, Query, pair, element, for, let_in, when}
 use Rattle.meaning.specs.Tokens.{token_at}
-use Rattle.meaning.specs.Texts.{Here, here, Read, expect, joined_by, query_at, cond_no, cond_nodes, query_no, query_nodes}
-use Rattle.words.specs.Tables.{code_of}
+use Rattle.meaning.specs.Texts.{Here, here, Read, expect, joined_by, query_at, query_no, query_nodes}
 use Rattle.tokens.specs.declared.Placed.{Placed}
 use Rattle.tokens.specs.Says.{kind_of, Tells}
 use Rattle.steps.specs.declared.Went.{Went}
-use Rattle.steps.specs.declared.Went.TheVariants as Went
 use Rattle.steps.specs.Says as Said
 use Rattle.items.specs.declared.Act.{Act}
-use Rattle.items.specs.declared.Act.TheVariants as Act
 use Rattle.items.specs.Machine as Machine
 use Rattle.items.specs.Machine.{Frame, bound, folded, cont, held, rows_of, depth, pairs, part, whole, Stands, Deep, Shown}
 use Rattle.items.specs.Says as Says
 use Rattle.items.specs.Says.{Well, Stops, Made, Has, Acts, Emitted, Goes}
 use Rattle.items.proofs.Outs.{bind_ok, bind_assoc, at_here, went_then, went_not, went_on}
-use Rattle.items.proofs.Frames.{well_later, well_under, well_on, stands, deep, pairs_under}
+use Rattle.items.proofs.Frames.{well_later, well_under, well_on, stands, deep}
 use Rattle.items.proofs.Doing.{emitted_acts}
 
 -- ONE NODE MORE over the part that a frame keeps and the item that was made

@@ -1,23 +1,19 @@
 -- A when: behind its condition, and behind its word.
 -- Assumes nothing.
 use mathlib.Core.Path.{◌≡◌, refl, sym, ap, subst, ◌∙◌}
-use mathlib.Core.List.{List, [], ◌∷◌, ◌++◌}
-use Prim.Native.Nat.{ℕ, suc, ◌+◌, ◌-◌, ◌≤◌, ◌<◌, min}
+use mathlib.Core.List.{List, ◌++◌}
+use Prim.Native.Nat.{ℕ, suc, ◌+◌, ◌-◌, ◌≤◌, ◌<◌}
 use native.Mathlib.Omega.{arith}
 use lib.ListN.{length}
-use Rattle.meaning.specs.Base.{Out, ok, refused, ◌>>=◌}
+use Rattle.meaning.specs.Base.{◌>>=◌}
 use Rattle.meaning.specs.Queries.{Cond, Query}
 use Rattle.meaning.specs.Texts.{Here, here, Read, expect, cond_at, cond_no, cond_nodes}
-use Rattle.words.specs.Tables.{code_of}
 use Rattle.steps.specs.declared.Went.{Went}
-use Rattle.steps.specs.declared.Went.TheVariants as Went
 use Rattle.steps.specs.Says as Said
 use Rattle.rows.specs.declared.Part.{Part}
-use Rattle.rows.specs.declared.Part.TheVariants as Part
 use Rattle.rows.specs.Says as Rows
 use Rattle.conditions.specs.Says.{Conditions}
 use Rattle.items.specs.declared.Act.{Act}
-use Rattle.items.specs.declared.Act.TheVariants as Act
 use Rattle.items.specs.Machine as Machine
 use Rattle.items.specs.Machine.{Frame, rows_of, depth, pairs}
 use Rattle.items.specs.Says as Says

@@ -1,37 +1,28 @@
 -- Each item of the grammar, by its first token: what the definition reads there, and what is done.
 -- Assumes nothing.
-use mathlib.Core.Path.{◌≡◌, refl, sym, ap, subst, ◌∙◌}
+use mathlib.Core.Path.{◌≡◌, refl, sym, ap, ◌∙◌}
 use mathlib.Core.Bool.{Bool, true, false}
-use mathlib.Core.List.{List, [], ◌∷◌, ◌++◌}
-use Prim.Native.Nat.{ℕ, zero, suc, ◌+◌, ◌≤◌, ◌<◌, min}
+use mathlib.Core.List.{List, [], ◌∷◌}
+use Prim.Native.Nat.{ℕ, suc, ◌≤◌, ◌<◌}
 use native.Mathlib.Omega.{arith}
-use lib.Dec.{ltb, eqb}
 use lib.ListN.{length}
 use borrow.Author.Tests.{eq-eqb, ne_eqb, lt-ltb, le-ltb}
 use Rattle.meaning.specs.Base.{Out, ok, refused, ◌>>=◌, find}
 use Rattle.meaning.specs.Records.{node}
-use Rattle.meaning.specs.Queries.{Cond, Query, nothing, text, variable, child, dos}
-use Rattle.meaning.specs.Tokens
+use Rattle.meaning.specs.Queries.{nothing, text, variable}
 use Rattle.meaning.specs.Tokens.{token_at}
-use Rattle.meaning.specs.Texts.{Here, here, Read, one, expect, number_in, opened, variable_at, test_at, cond_at, step_at, group_at, item_by, query_at, cond_no, cond_nodes, query_no, query_nodes}
-use Rattle.words.specs.Tables.{code_of}
+use Rattle.meaning.specs.Texts.{Here, here, expect, number_in, opened, test_at, step_at, group_at, query_at, query_no, query_nodes}
 use Rattle.tokens.specs.declared.Placed.{Placed}
 use Rattle.tokens.specs.Says.{kind_of, Tells}
-use Rattle.steps.specs.declared.Went.{Went}
-use Rattle.steps.specs.declared.Went.TheVariants as Went
 use Rattle.steps.specs.declared.Got.{Got}
-use Rattle.steps.specs.declared.Got.TheVariants as Got
 use Rattle.steps.specs.Says as Said
 use Rattle.steps.proofs.Expecting.{token_onward}
 use Rattle.items.specs.declared.Act.{Act}
-use Rattle.items.specs.declared.Act.TheVariants as Act
 use Rattle.items.specs.Machine as Machine
 use Rattle.items.specs.Machine.{Frame, item_at, cont, rows_of, opens, depth, pairs}
-use Rattle.items.specs.Says as Says
-use Rattle.items.specs.Says.{Well, Stops, Wants, Acts, Emitted, Does, opening, text_behind, is_child, step_kind, step_of, test_behind, step_behind, variable_item, group_behind, inside_at, element_at, is_for, sign_of, Signed, sign_behind, bound_behind, body_behind, when_behind, Guards}
-use Rattle.items.proofs.Outs.{opened_then, at_here, got_then, got_not, got_on, went_then, went_not, went_on}
-use Rattle.items.proofs.Frames.{well_later, well_on}
-use Rattle.items.proofs.Doing.{refused_does, leaf_does, opens_acts, wants_later, does_later, does_deeper}
+use Rattle.items.specs.Says.{Emitted, Does, opening, text_behind, is_child, step_kind, step_of, test_behind, group_behind, inside_at}
+use Rattle.items.proofs.Outs.{at_here, got_then, got_not, got_on}
+use Rattle.items.proofs.Doing.{refused_does, leaf_does}
 
 -- A TEXT
 module _ {s : List ℕ} {at nodes : ℕ} {code u : List ℕ} {r : Got} (g : Said.Gives s at r (λ n. number_in s 0 65535 (here at n))) where

@@ -1,33 +1,26 @@
 -- What each item does where it is to be read: variables and their steps, and the items that open a frame.
 -- Assumes nothing.
-use mathlib.Core.Path.{◌≡◌, refl, sym, ap, subst, ◌∙◌}
+use mathlib.Core.Path.{◌≡◌, refl, ap, ◌∙◌}
 use mathlib.Core.Bool.{Bool, true, false}
-use mathlib.Core.List.{List, [], ◌∷◌, ◌++◌}
-use Prim.Native.Nat.{ℕ, zero, suc, ◌+◌, ◌≤◌, ◌<◌, min}
+use mathlib.Core.List.{List, ◌∷◌}
+use Prim.Native.Nat.{ℕ, zero, suc, ◌+◌, ◌≤◌, ◌<◌}
 use native.Mathlib.Omega.{arith}
 use lib.ListN.{length}
-use Rattle.meaning.specs.Base.{Out, ok, refused, ◌>>=◌}
-use Rattle.meaning.specs.Records.{Node, node}
-use Rattle.meaning.specs.Queries.{Cond, Query, nothing, variable}
+use Rattle.meaning.specs.Records.{node}
+use Rattle.meaning.specs.Queries.{nothing, variable}
 use Rattle.meaning.specs.Tokens.{token_at}
-use Rattle.meaning.specs.Texts.{Here, here, Read, expect, number_in, variable_at, cond_at, step_at, query_at, cond_no, cond_nodes, query_nodes}
-use Rattle.words.specs.Tables.{code_of}
+use Rattle.meaning.specs.Texts.{Here, here, expect, number_in, variable_at, step_at, query_nodes}
 use Rattle.tokens.specs.declared.Placed.{Placed}
 use Rattle.tokens.specs.Says.{kind_of, Tells}
 use Rattle.steps.specs.declared.Went.{Went}
-use Rattle.steps.specs.declared.Went.TheVariants as Went
 use Rattle.steps.specs.declared.Got.{Got}
-use Rattle.steps.specs.declared.Got.TheVariants as Got
 use Rattle.steps.specs.Says as Said
 use Rattle.items.specs.declared.Act.{Act}
-use Rattle.items.specs.declared.Act.TheVariants as Act
 use Rattle.items.specs.Machine as Machine
 use Rattle.items.specs.Machine.{Frame, cont, rows_of, opens, depth, waits, pairs, part, Deep}
-use Rattle.items.specs.Says as Says
-use Rattle.items.specs.Says.{Well, Stops, Wants, Acts, Emitted, Does, text_behind, test_behind, step_behind, variable_item, group_behind, inside_at, element_at, is_for, sign_of, Signed, sign_behind, bound_behind, body_behind, when_behind, Guards}
-use Rattle.items.proofs.Outs.{at_here, got_then, got_not, got_on, went_then, went_not, went_on}
-use Rattle.items.proofs.Frames.{well_later, well_on}
-use Rattle.items.proofs.Doing.{refused_does, leaf_does, opens_acts, wants_later, does_later}
+use Rattle.items.specs.Says.{Wants, Acts, Emitted, Does, test_behind, step_behind, variable_item, group_behind, inside_at, element_at, is_for, sign_of, Signed, sign_behind, bound_behind}
+use Rattle.items.proofs.Outs.{got_then, got_not, got_on, went_then, went_not, went_on}
+use Rattle.items.proofs.Doing.{refused_does, leaf_does, opens_acts, does_later}
 use Rattle.items.proofs.Items.{token_on, step_child, step_dos, step_none, group_nothing, group_query, inside_not, inside_deep, inside_query, opening_deep, opening_not}
 
 -- one more is open, and no pair waits, behind a frame that opens

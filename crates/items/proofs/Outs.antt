@@ -8,9 +8,7 @@ use lib.Dec.{ltb}
 use Rattle.meaning.specs.Base.{Out, ok, refused, ◌>>=◌, require}
 use Rattle.meaning.specs.Texts.{Here, here, Read, look, past, expect, opened}
 use Rattle.steps.specs.declared.Went.{Went}
-use Rattle.steps.specs.declared.Went.TheVariants as Went
 use Rattle.steps.specs.declared.Got.{Got}
-use Rattle.steps.specs.declared.Got.TheVariants as Got
 use Rattle.steps.specs.Says as Said
 use Rattle.steps.specs.Says.{went_of, got_of, Onward, WentOn, GotOn}
 use Rattle.items.specs.Says.{opening}

@@ -1,11 +1,11 @@
 -- The items of a text, read over a stack of what is open: what each frame goes on with is the rest of the definition behind the part that is read.
 -- Assumes nothing.
 use Rattle.std.specs.Prelude.{◌≡◌, Bool, true, false, List, [], ◌∷◌, ◌++◌, ℕ, suc, ◌+◌, ◌≤◌, ◌<◌, length}
-use Rattle.meaning.specs.Base.{Out, ok, refused, ◌>>=◌}
+use Rattle.meaning.specs.Base.{ok, ◌>>=◌}
 use Rattle.meaning.specs.Records.{Node}
 use Rattle.meaning.specs.Queries.{Cond, Query, pair, element, for, let_in, when}
 use Rattle.meaning.specs.Tokens
-use Rattle.meaning.specs.Texts.{Here, here, Read, one, expect, cond_at, item_by, joined_by, query_at, cond_no, query_no, cond_nodes, query_nodes}
+use Rattle.meaning.specs.Texts.{Here, Read, one, expect, cond_at, item_by, joined_by, query_at, cond_no, query_no, cond_nodes, query_nodes}
 
 -- an item, whose parts are read k deep
 abbrev pub item_at : List ℕ → ℕ → ℕ → Here → Read Query

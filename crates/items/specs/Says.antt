@@ -5,10 +5,9 @@ use Rattle.meaning.specs.Base.{Out, ok, refused, ◌>>=◌, require}
 use Rattle.meaning.specs.Records.{Node}
 use Rattle.meaning.specs.Queries.{Cond, Query, text, child, dos}
 use Rattle.meaning.specs.Tokens
-use Rattle.meaning.specs.Texts.{Here, here, Read, one, expect, number_in, opened, variable_at, test_at, cond_at, step_at, group_at, query_at, cond_no, query_no, cond_nodes, query_nodes}
+use Rattle.meaning.specs.Texts.{Here, Read, one, expect, number_in, opened, variable_at, test_at, cond_at, step_at, group_at, query_at, cond_no, query_no, cond_nodes, query_nodes}
 use Rattle.words.specs.Tables.{code_of}
 use Rattle.items.specs.declared.Act.{Act}
-use Rattle.items.specs.declared.Act.TheVariants as Act
 use Rattle.items.specs.Machine.{item_at, Frame, tail, inside, source, guarded, cont, rows_of, depth, pairs, Level, AllDeep, flat, part, Shown, many}
 
 -- FRAMES as they stand at an offset, where there are n nodes

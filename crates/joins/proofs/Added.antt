@@ -16,11 +16,9 @@ use Rattle.scope.specs.declared.Scope.{Scope}
 use Rattle.scope.specs.Shows.{Shows}
 use Rattle.conds.specs.Says.{verdict, Answers}
 use Rattle.conds.specs.declared.Verdict.{Verdict}
-use Rattle.conds.specs.declared.Verdict.TheVariants as Verdict
 use Rattle.conds.proofs.Told.{fine_told, verdict_refused, unbound_free}
 use Rattle.grow.specs.Grow.{Left}
 use Rattle.grow.specs.declared.Made.{Made}
-use Rattle.grow.specs.declared.Made.TheVariants as Made
 use Rattle.grow.proofs.Steps.{left_here, left_stop, left_after, left_ready}
 use Rattle.leaves.specs.declared.Walked.{Walked}
 use Rattle.leaves.proofs.Steps.{left_as, left_refused}

@@ -14,10 +14,8 @@ use Rattle.words.specs.Tables.{table_of}
 use Rattle.classes.specs.Classes.{class_of}
 use Rattle.scope.specs.Shows.{Shows}
 use Rattle.conds.specs.declared.Verdict.{Verdict}
-use Rattle.conds.specs.declared.Verdict.TheVariants as Verdict
 use Rattle.grow.specs.Grow.{Ready, Left, New}
 use Rattle.grow.specs.declared.Made.{Made}
-use Rattle.grow.specs.declared.Made.TheVariants as Made
 use Rattle.leaves.specs.declared.Walked.{Walked}
 use Rattle.leaves.specs.Walk.{walked}
 

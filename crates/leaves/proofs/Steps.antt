@@ -20,11 +20,9 @@ use Rattle.words.proofs.Tables.{table_length}
 use Rattle.scope.specs.declared.Scope.{Scope}
 use Rattle.conds.specs.Says.{found, Answers}
 use Rattle.conds.specs.declared.Found.{Found}
-use Rattle.conds.specs.declared.Found.TheVariants as Found
 use Rattle.conds.proofs.Told.{shown, shows_shown, variable_found, tree_found, entry_told, found_refused}
 use Rattle.grow.specs.Grow.{Ready, Left}
 use Rattle.grow.specs.declared.Made.{Made}
-use Rattle.grow.specs.declared.Made.TheVariants as Made
 use Rattle.grow.proofs.Steps.{left_here}
 use Rattle.leaves.specs.Walk.{tabled, walked, Begins, Walks, entered}
 

@@ -14,10 +14,8 @@ use Rattle.words.specs.Tables.{table_of}
 use Rattle.scope.specs.declared.Scope.{Scope}
 use Rattle.scope.specs.Shows.{slot_var, Shows}
 use Rattle.conds.specs.declared.Found.{Found}
-use Rattle.conds.specs.declared.Found.TheVariants as Found
 use Rattle.grow.specs.Grow.{Ready, Left}
 use Rattle.grow.specs.declared.Made.{Made}
-use Rattle.grow.specs.declared.Made.TheVariants as Made
 use Rattle.leaves.specs.declared.Walked.{Walked}
 
 -- a scope of 64 words, in which each variable has its type among the first n entries

@@ -11,7 +11,6 @@ use lib.Dec.{leb, ltb, eqb}
 use lib.ListN.{length, get_or, length-append, get_or-append}
 use Rattle.meaning.specs.Base.{Out, ok, refused, ◌>>=◌, find, is_some, At, Caps, caps_of, word}
 use Rattle.meaning.specs.Kinds
-use Rattle.meaning.specs.Types as Types
 use Rattle.meaning.specs.Types.{Entry, Table, Defs, entry_of}
 use Rattle.meaning.specs.Formed.{Lower, Names, NodeLow, TypesRead, DefsRead, VarsRead, CodeRead}
 use Rattle.meaning.specs.Records as Records

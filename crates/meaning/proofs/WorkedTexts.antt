@@ -1,9 +1,8 @@
 -- Texts and what the definitions give for them, computed: queries of each form, and each refusal of the parser but 23, 5 and 30.
 -- Assumes nothing.
 use mathlib.Core.Path.{◌≡◌, refl}
-use Prim.Native.Nat.{ℕ}
-use mathlib.Core.List.{List, [], ◌∷◌}
-use Rattle.meaning.specs.Base.{Out, ok, refused, find, concat_map, bytes_of}
+use mathlib.Core.List.{[], ◌∷◌}
+use Rattle.meaning.specs.Base.{ok, refused, find, concat_map, bytes_of}
 use Rattle.meaning.specs.Forests.{same_words}
 use Rattle.meaning.specs.Records.{forms}
 use Rattle.meaning.specs.Tokens.{words, signs, run, word_among, sign_among, decimal, front, token_at}

@@ -2,29 +2,26 @@
 -- Assumes nothing.
 use mathlib.Core.Path.{◌≡◌, refl, sym, ap, subst, ◌∙◌}
 use mathlib.Core.Bool.{Bool, true, false}
-use mathlib.Core.List.{List, []}
-use Prim.Native.Nat.{ℕ, suc, ◌≤◌, ◌<◌, min}
+use mathlib.Core.List.{List}
+use Prim.Native.Nat.{ℕ, ◌≤◌, ◌<◌, min}
 use native.Mathlib.Omega.{arith}
 use lib.Dec.{leb}
 use lib.ListN.{length}
 use borrow.Author.Tests.{eq-eqb, ne_eqb, le-leb, lt-leb}
-use Rattle.meaning.specs.Base.{Out, ok, refused, ◌>>=◌, require, concat_map, zeros, code_width}
+use Rattle.meaning.specs.Base.{Out, ok, ◌>>=◌, require, concat_map, zeros}
 use Rattle.meaning.specs.Records.{Node}
 use Rattle.meaning.specs.Queries.{Query}
 use Rattle.meaning.specs.Tokens.{token_at}
-use Rattle.meaning.specs.Texts.{Here, here, Read, expect, query_at, parse, query_nodes, node_record, section, fitted, parse_text}
+use Rattle.meaning.specs.Texts.{Here, Read, expect, parse, query_nodes, node_record, section, fitted, parse_text}
 use Rattle.words.specs.Tables.{code_of}
 use Rattle.tokens.specs.declared.Placed.{Placed}
 use Rattle.tokens.specs.Says.{kind_of, Tells}
 use Rattle.rows.specs.declared.Part.{Part}
-use Rattle.rows.specs.declared.Part.TheVariants as Part
 use Rattle.sections.specs.declared.Written.{Written}
-use Rattle.sections.specs.declared.Written.TheVariants as Written
 use Rattle.sections.specs.Says as Sections
 use Rattle.items.specs.Says.{Stops}
 use Rattle.items.proofs.Outs.{at_here}
 use Rattle.parses.specs.declared.Parsed.{Parsed}
-use Rattle.parses.specs.declared.Parsed.TheVariants as Parsed
 use Rattle.parses.specs.Says as Says
 use Rattle.parses.specs.Says.{items_of, Items, ending, Ended, Finishes, Parses, parsed_of, Left, Few, Settles}
 

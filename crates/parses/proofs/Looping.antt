@@ -3,20 +3,18 @@
 use mathlib.Core.Path.{◌≡◌, refl, sym, ap, subst, ◌∙◌}
 use mathlib.Core.Bool.{Bool, true, false}
 use mathlib.Core.List.{List, [], ◌∷◌, append-nil}
-use Prim.Native.Nat.{ℕ, zero, suc, ◌+◌, ◌-◌, ◌*◌, ◌≤◌, ◌<◌}
+use Prim.Native.Nat.{ℕ, suc, ◌+◌, ◌-◌, ◌*◌, ◌≤◌, ◌<◌}
 use native.Mathlib.Omega.{arith}
 use lib.Dec.{leb}
-use lib.ListN.{length, get_or}
-use Rattle.meaning.specs.Base.{Out, ok, refused, ◌>>=◌}
+use lib.ListN.{length}
+use Rattle.meaning.specs.Base.{ok, refused, ◌>>=◌}
 use Rattle.meaning.specs.Queries.{Query}
-use Rattle.meaning.specs.Texts.{Here, here, Read, joined_by, query_at, query_nodes}
+use Rattle.meaning.specs.Texts.{Here, here, Read, joined_by, query_at}
 use Rattle.words.specs.Tables.{stored, code_of}
 use Rattle.words.specs.declared.Entry.{Entry}
 use Rattle.words.proofs.Rows.{stored_length}
 use Rattle.rows.specs.declared.Part.{Part}
-use Rattle.rows.specs.declared.Part.TheVariants as Part
 use Rattle.items.specs.declared.Act.{Act}
-use Rattle.items.specs.declared.Act.TheVariants as Act
 use Rattle.items.specs.Machine as Machine
 use Rattle.items.specs.Machine.{Frame, item_at, folded, cont, plug, rows_of, depth, pairs, Level, AllDeep, many}
 use Rattle.items.specs.Says as Says

@@ -1,17 +1,15 @@
 -- The loop that reads the items of a text: its stack of tasks, where it is, and what it answers.
 -- Assumes nothing.
-use Rattle.std.specs.Prelude.{◌≡◌, Bool, true, false, List, [], ◌∷◌, ℕ, suc, ◌+◌, ◌-◌, ◌*◌, ◌≤◌, ◌<◌, leb, length, get_or}
+use Rattle.std.specs.Prelude.{◌≡◌, Bool, true, false, List, [], ◌∷◌, ℕ, suc, ◌+◌, ◌-◌, ◌*◌, ◌≤◌, leb, length, get_or}
 use Rattle.meaning.specs.Base.{Out, ok, refused, ◌>>=◌, require, lent}
 use Rattle.meaning.specs.Queries.{Query}
 use Rattle.meaning.specs.Tokens
 use Rattle.meaning.specs.Texts.{Here, here, Read, expect, query_at, query_nodes, section, fitted}
 use Rattle.words.specs.Tables.{stored, code_of}
 use Rattle.rows.specs.declared.Part.{Part}
-use Rattle.rows.specs.declared.Part.TheVariants as Part
 use Rattle.items.specs.Machine.{Frame, item_at, plug, Shown}
 use Rattle.items.specs.Says.{Well, Stops, Made, Wants}
 use Rattle.parses.specs.declared.Parsed.{Parsed}
-use Rattle.parses.specs.declared.Parsed.TheVariants as Parsed
 
 -- three words of a table, at a task's place
 abbrev pub kind_at : List ℕ → ℕ → ℕ

@@ -16,7 +16,6 @@ use Rattle.words.proofs.Tables.{code_length, code_at}
 use Rattle.uses.specs.Counts.{Coded}
 use Rattle.queries.specs.Says.{query_of, Says}
 use Rattle.queries.specs.declared.Query.{Query}
-use Rattle.queries.specs.declared.Query.TheVariants as Query
 
 -- WHAT A QUERY NAMES. The numbers of a condition's node and of a query's
 abbrev pub top_cond : Queries.Cond → ℕ

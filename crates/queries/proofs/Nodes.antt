@@ -8,13 +8,11 @@ use lib.ListN.{get_or}
 use Rattle.meaning.specs.Base.{code_width, find}
 use Rattle.meaning.specs.Kinds
 use Rattle.meaning.specs.Records.{node}
-use Rattle.meaning.specs.Queries as Queries
 use Rattle.meaning.specs.Queries.{expand_query}
 use Rattle.words.specs.Tables.{node_in}
 use Rattle.words.specs.declared.Node as Words
 use Rattle.queries.specs.Says.{Says}
 use Rattle.queries.specs.declared.Query.{Query}
-use Rattle.queries.specs.declared.Query.TheVariants as Query
 
 -- what a node says, at the kind's number
 pub says_kind : (n a b d : ℕ) {k j : ℕ} {c : Query} → k ≡ j → Says n (node j a b d) c → Says n (node k a b d) c

@@ -5,7 +5,6 @@ use Rattle.meaning.specs.Records.{Node}
 use Rattle.meaning.specs.Queries as Queries
 use Rattle.meaning.specs.Queries.{expand_query}
 use Rattle.queries.specs.declared.Query.{Query}
-use Rattle.queries.specs.declared.Query.TheVariants as Query
 
 -- the query at node n, from the conditions and the queries at the nodes that it names
 abbrev pub query_of : ℕ → (ℕ → Queries.Cond) → (ℕ → Queries.Query) → Query → Queries.Query

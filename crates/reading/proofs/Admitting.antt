@@ -11,12 +11,10 @@ use Rattle.meaning.specs.Records.{Section, record_at, Tables, in_order, has_room
 use Rattle.words.specs.Tables.{code_of, vars_of}
 use Rattle.records.specs.declared.Item.{Item}
 use Rattle.records.specs.declared.Rec.{Rec}
-use Rattle.records.specs.declared.Rec.TheVariants as Rec
 use Rattle.records.specs.Says.{section_of, sorts_of, fields_of, item_of, Filled, rec_of, Stands}
 use Rattle.records.proofs.Fit.{failed, passed}
 use Rattle.reading.specs.declared.Counts.{Counts}
 use Rattle.reading.specs.declared.Step.{Step}
-use Rattle.reading.specs.declared.Step.TheVariants as Step
 use Rattle.reading.specs.Says.{caps}
 use Rattle.reading.specs.Steps.{Counted, Shown, counted, with, Storing, Admits, Goes, Advances}
 

@@ -7,7 +7,7 @@ use native.Mathlib.Omega.{arith}
 use lib.ListN.{length, get_or, take, set, replicate, length-append}
 use lib.Seq.{take-suc, take-length, set-append_seam}
 use Rattle.meaning.specs.Base.{zeros, padded, concat_map}
-use Rattle.meaning.specs.Records.{Var, tree, forest, var_of, Tables}
+use Rattle.meaning.specs.Records.{Var, tree, forest, var_of}
 use Rattle.words.specs.Tables.{var_in, vars_of}
 use Rattle.words.proofs.Rows.{lent_at, lent_first}
 use Rattle.reading.specs.Says.{kind_of_var, var_words}

@@ -19,7 +19,6 @@ use Rattle.records.specs.Says.{file_of, section_of, item_of}
 use Rattle.records.proofs.Found.{Known-there, there}
 use Rattle.reading.specs.declared.Counts.{Counts}
 use Rattle.reading.specs.declared.Step.{Step}
-use Rattle.reading.specs.declared.Step.TheVariants as Step
 use Rattle.reading.specs.Says.{caps}
 use Rattle.reading.specs.Steps.{Counted, Shown, Placed, with, stepped, Next, Advances}
 use Rattle.reading.specs.Lists.{Lists, Holds, Space, Stores, Begun, Finished, Stopped}

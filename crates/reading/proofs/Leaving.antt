@@ -8,7 +8,6 @@ use Rattle.meaning.specs.Base.{Out, ok, refused, is_some, otherwise}
 use Rattle.meaning.specs.Records.{Tables}
 use Rattle.meaning.proofs.Lists.{never}
 use Rattle.reading.specs.declared.Reading.{Reading}
-use Rattle.reading.specs.declared.Reading.TheVariants as Reading
 use Rattle.reading.specs.declared.Given.{Given}
 use Rattle.reading.specs.declared.Read.{Read}
 use Rattle.reading.specs.Says.{read_of, Left, Held}

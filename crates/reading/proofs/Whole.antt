@@ -17,7 +17,6 @@ use Rattle.words.proofs.Rows.{zeros_length}
 use Rattle.words.proofs.Tables.{table_more, table_inside, table_cleared, code_inside, code_cleared}
 use Rattle.reading.specs.declared.Counts.{Counts}
 use Rattle.reading.specs.declared.Reached.{Reached}
-use Rattle.reading.specs.declared.Reached.TheVariants as Reached
 use Rattle.reading.specs.declared.Read.{Read}
 use Rattle.reading.specs.declared.Reading.TheVariants as Reading
 use Rattle.reading.specs.Says.{caps, read_of, Left}

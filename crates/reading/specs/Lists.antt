@@ -7,7 +7,6 @@ use Rattle.meaning.specs.Records.{var_of, node_words, Tables, fresh}
 use Rattle.records.specs.declared.Item.{Item}
 use Rattle.reading.specs.declared.Counts.{Counts}
 use Rattle.reading.specs.declared.Reached.{Reached}
-use Rattle.reading.specs.declared.Reached.TheVariants as Reached
 use Rattle.reading.specs.Says.{var_words}
 use Rattle.reading.specs.Steps.{Counted, with}
 

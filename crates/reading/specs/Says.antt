@@ -7,7 +7,6 @@ use Rattle.meaning.specs.Types.{table_words}
 use Rattle.meaning.specs.Records.{Var, tree, forest, type_in, node_words, Tables}
 use Rattle.meaning.specs.Typing.{read_types, read_code}
 use Rattle.reading.specs.declared.Reading.{Reading}
-use Rattle.reading.specs.declared.Reading.TheVariants as Reading
 use Rattle.reading.specs.declared.Given.{Given}
 use Rattle.reading.specs.declared.Read.{Read}
 

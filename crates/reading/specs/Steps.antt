@@ -5,12 +5,10 @@ use Rattle.meaning.specs.Base.{Out, ok, refused, otherwise, is_some, code_width}
 use Rattle.meaning.specs.Records as Records
 use Rattle.meaning.specs.Records.{Section, order, record_at, Tables, put, read_record}
 use Rattle.words.specs.Tables.{code_of, vars_of}
-use Rattle.records.specs.declared.File.{File}
 use Rattle.records.specs.declared.Item.{Item}
 use Rattle.records.specs.Says.{section_of, item_of, Filled}
 use Rattle.reading.specs.declared.Counts.{Counts}
 use Rattle.reading.specs.declared.Step.{Step}
-use Rattle.reading.specs.declared.Step.TheVariants as Step
 use Rattle.reading.specs.Says.{caps}
 
 -- the counts of tables that have been read

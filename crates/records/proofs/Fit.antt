@@ -7,7 +7,7 @@ use Prim.Native.Nat.{ℕ, suc, ◌*◌, ◌-◌, ◌≤◌, ◌<◌}
 use native.Mathlib.Omega.{arith}
 use borrow.Author.Tests.{not-true, not-false, le-leb, lt-leb, lt-ltb, le-ltb}
 use lib.Dec.{leb, ltb}
-use lib.ListN.{length, get_or, take}
+use lib.ListN.{get_or, take}
 use lib.Seq.{take-nil}
 use Rattle.meaning.specs.Base.{code_width}
 use Rattle.meaning.specs.Records as Records
@@ -15,7 +15,6 @@ use Rattle.meaning.specs.Records.{Node, is_condition, fits, all_fit}
 use Rattle.words.specs.Tables.{code_of}
 use Rattle.words.proofs.Tables.{code_length, code_at}
 use Rattle.records.specs.declared.Sort.{Sort}
-use Rattle.records.specs.declared.Sort.TheVariants as Sort
 use Rattle.records.specs.declared.Item.{Item}
 use Rattle.records.specs.Says.{sort_of, fields_in, sorts_of, fields_of}
 

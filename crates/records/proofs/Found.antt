@@ -16,10 +16,8 @@ use Rattle.meaning.proofs.Ends.{Ends, gives, ends_bind, ends_require, ends_given
 use Rattle.meaning.proofs.Grammar.{own_form_lem}
 use Rattle.records.specs.declared.Form.{Form}
 use Rattle.records.specs.declared.Known.{Known}
-use Rattle.records.specs.declared.Known.TheVariants as Known
 use Rattle.records.specs.declared.Item.{Item}
 use Rattle.records.specs.declared.Rec.{Rec}
-use Rattle.records.specs.declared.Rec.TheVariants as Rec
 use Rattle.records.specs.Says.{section_of, form_of, formed, Formed, Owned, FieldAt, Stands}
 use Rattle.records.proofs.Fields.{fields_are, filled}
 

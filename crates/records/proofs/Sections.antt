@@ -8,7 +8,6 @@ use lib.Dec.{leb, eqb}
 use borrow.Author.Tests.{le-leb, lt-leb, ne_eqb}
 use Rattle.meaning.specs.Records.{Section, types, definitions, variables, query, result, value, order, job, answer, has_section}
 use Rattle.records.specs.declared.File.{File}
-use Rattle.records.specs.declared.File.TheVariants as File
 use Rattle.records.specs.Says.{file_of, section_of}
 
 pub order_section : (n : ℕ) → order (section_of n) ≡ min n 5

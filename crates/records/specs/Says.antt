@@ -1,20 +1,16 @@
 -- What the code's sorts, files, forms and records say in document 01's terms.
 -- Assumes nothing.
-use Rattle.std.specs.Prelude.{◌≡◌, List, [], ◌∷◌, ℕ, zero, suc, ◌+◌, ◌-◌, ◌/◌, ◌≤◌, ◌<◌, length, take}
+use Rattle.std.specs.Prelude.{◌≡◌, List, [], ◌∷◌, ℕ, zero, suc, ◌+◌, ◌-◌, ◌/◌, ◌≤◌, ◌<◌, take}
 use Rattle.std.proofs.Math.Option.{Option, none, some}
 use Rattle.meaning.specs.Base.{Out, ok, refused, find, word}
 use Rattle.meaning.specs.Records as Records
 use Rattle.meaning.specs.Records.{Section, types, definitions, variables, query, result, value, form, forms, form_in, length_of, Record, field, record_at}
 use Rattle.records.specs.declared.Sort.{Sort}
-use Rattle.records.specs.declared.Sort.TheVariants as Sort
 use Rattle.records.specs.declared.File.{File}
-use Rattle.records.specs.declared.File.TheVariants as File
 use Rattle.records.specs.declared.Form.{Form}
 use Rattle.records.specs.declared.Known.{Known}
-use Rattle.records.specs.declared.Known.TheVariants as Known
 use Rattle.records.specs.declared.Item.{Item}
 use Rattle.records.specs.declared.Rec.{Rec}
-use Rattle.records.specs.declared.Rec.TheVariants as Rec
 
 abbrev pub sort_of : Sort → Records.Sort
 sort_of Sort.Label = Records.label

@@ -6,7 +6,6 @@ use Rattle.meaning.specs.Records.{Node}
 use Rattle.meaning.specs.Texts.{Here, Read}
 use Rattle.words.specs.Tables.{code_of}
 use Rattle.rows.specs.declared.Part.{Part}
-use Rattle.rows.specs.declared.Part.TheVariants as Part
 
 -- ONE NODE MORE, where there are so many: how many there are then, up to 1,025, and the nodes that the words hold
 pub record Emits (nodes : ℕ) (x : Node) (code : List ℕ) (r : ℕ) (u : List ℕ) : Type 0 where

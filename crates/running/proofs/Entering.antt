@@ -13,7 +13,6 @@ use Rattle.meaning.specs.Running.{Env, eval, written}
 use Rattle.words.specs.Tables.{node_in, code_of}
 use Rattle.spans.specs.declared.Spans.{Spans}
 use Rattle.copies.specs.declared.Made.{Made}
-use Rattle.copies.specs.declared.Made.TheVariants as Made
 use Rattle.picks.specs.Picks.{Picks}
 use Rattle.truths.specs.Tells.{Tells}
 use Rattle.queries.specs.Says.{query_of, Says}

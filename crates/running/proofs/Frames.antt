@@ -12,7 +12,6 @@ use Rattle.words.proofs.Rows.{stored_length}
 use Rattle.spans.specs.declared.Spans.{Spans}
 use Rattle.running.specs.declared.Frame.{Frame}
 use Rattle.running.specs.declared.Next.{Next}
-use Rattle.running.specs.declared.Next.TheVariants as Next
 use Rattle.running.specs.Machine.{turn, frame_in, framed}
 
 -- A WORD of what was stored, and one before it

@@ -12,11 +12,9 @@ use Rattle.meaning.specs.Queries as Queries
 use Rattle.words.specs.Tables.{code_of}
 use Rattle.spans.specs.declared.Spans.{Spans}
 use Rattle.copies.specs.declared.Made.{Made}
-use Rattle.copies.specs.declared.Made.TheVariants as Made
 use Rattle.copies.proofs.Lent.{lent, back, back_length}
 use Rattle.running.specs.declared.Frame.{Frame}
 use Rattle.running.specs.declared.Next.{Next}
-use Rattle.running.specs.declared.Next.TheVariants as Next
 use Rattle.running.specs.Evaluates.{Ready, Evaluated}
 use Rattle.running.specs.Machine.{Turn, Spot, spot, Given, Answers, Inner, Steps, Back, done, begun, frame_in, framed, weight, still, half}
 use Rattle.running.proofs.Leaving.{left_full, full_is}

@@ -15,7 +15,7 @@ use Rattle.meaning.proofs.Forests.{words_determine}
 use Rattle.words.specs.Tables.{code_of}
 use Rattle.words.proofs.Rows.{stored_length}
 use Rattle.spans.specs.declared.Span.{Span}
-use Rattle.spans.specs.Shows.{bound, part, Shows}
+use Rattle.spans.specs.Shows.{bound, Shows}
 use Rattle.spans.proofs.Binding.{shows_bind, shows_below}
 use Rattle.copies.specs.Fills.{first}
 use Rattle.running.specs.declared.Frame.{Frame}

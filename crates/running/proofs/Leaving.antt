@@ -13,7 +13,6 @@ use Rattle.meaning.specs.Queries as Queries
 use Rattle.meaning.specs.Queries.{Query, Cond}
 use Rattle.meaning.specs.Running.{Env, value_of, holds, written, for_each, eval}
 use Rattle.copies.specs.declared.Made.{Made}
-use Rattle.copies.specs.declared.Made.TheVariants as Made
 use Rattle.copies.specs.Fills as Fills
 use Rattle.copies.specs.Fills.{first, Filled, Copied}
 use Rattle.copies.proofs.Lent.{back}

@@ -11,7 +11,6 @@ use Rattle.meaning.specs.Queries.{Query, query_at}
 use Rattle.words.specs.Tables.{code_of}
 use Rattle.spans.specs.declared.Spans.{Spans}
 use Rattle.copies.specs.declared.Made.{Made}
-use Rattle.copies.specs.declared.Made.TheVariants as Made
 use Rattle.running.specs.declared.Frame.{Frame}
 use Rattle.running.specs.declared.Next.TheVariants as Next
 use Rattle.running.specs.Evaluates.{Step, Begins, Rounds}

@@ -14,9 +14,8 @@ use Rattle.meaning.specs.Running.{eval}
 use Rattle.words.specs.Tables.{stored, node_in, code_of}
 use Rattle.spans.specs.declared.Span.{Span}
 use Rattle.spans.specs.declared.Spans.{Spans}
-use Rattle.spans.specs.Shows.{standing, bound, part}
+use Rattle.spans.specs.Shows.{standing, bound}
 use Rattle.copies.specs.declared.Made.{Made}
-use Rattle.copies.specs.declared.Made.TheVariants as Made
 use Rattle.moves.specs.Moves.{Room, Wraps, Moves}
 use Rattle.queries.specs.Says.{query_of, Says}
 use Rattle.queries.specs.declared.Query as Nodes

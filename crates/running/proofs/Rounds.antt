@@ -14,7 +14,6 @@ use Rattle.spans.specs.declared.Spans.{Spans}
 use Rattle.spans.specs.Shows.{part, Shows}
 use Rattle.spans.proofs.Parts.{part_below}
 use Rattle.copies.specs.declared.Made.{Made}
-use Rattle.copies.specs.declared.Made.TheVariants as Made
 use Rattle.copies.specs.Fills.{first, Filled}
 use Rattle.copies.proofs.Filling.{filled_none, filled_length, filled_blank}
 use Rattle.copies.proofs.Firsts.{others, some, stretch_none, tree_size, tree_inside, tree_words, others_words}

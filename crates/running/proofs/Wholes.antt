@@ -18,7 +18,6 @@ use Rattle.spans.specs.declared.Spans.{Spans}
 use Rattle.spans.specs.Shows.{start, stop, bound, part, Shows}
 use Rattle.spans.proofs.Binding.{unbind_bind, shows_bind, shows_below}
 use Rattle.copies.specs.declared.Made.{Made}
-use Rattle.copies.specs.declared.Made.TheVariants as Made
 use Rattle.copies.specs.Fills.{Filled}
 use Rattle.copies.proofs.Filling.{filled_none, filled_blank}
 use Rattle.picks.specs.Picks.{Picks, Within}

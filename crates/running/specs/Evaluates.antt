@@ -10,7 +10,6 @@ use Rattle.spans.specs.Shows.{part, Shows, Inside}
 use Rattle.spans.specs.declared.Spans.{Spans}
 use Rattle.copies.specs.Fills.{Filled}
 use Rattle.copies.specs.declared.Made.{Made}
-use Rattle.copies.specs.declared.Made.TheVariants as Made
 
 -- WHAT IT IS GIVEN: a part of the work table from entry `at` on, of whole entries and all zeros; room to hold as much; and a scope whose stretches lie
 -- among the first `at` entries held and show an environment

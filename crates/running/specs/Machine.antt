@@ -13,7 +13,6 @@ use Rattle.copies.specs.declared.Made.TheVariants as Made
 use Rattle.truths.specs.Tells.{Places}
 use Rattle.running.specs.declared.Frame.{Frame}
 use Rattle.running.specs.declared.Next.{Next}
-use Rattle.running.specs.declared.Next.TheVariants as Next
 use Rattle.running.specs.Evaluates.{Step, Ready, Evaluates, Rounds, valued}
 
 -- A FRAME is six words of the stack, two entries of three

@@ -20,7 +20,6 @@ use Rattle.words.specs.Tables.{var_in, vars_of}
 use Rattle.words.proofs.Tables.{vars_length, vars_at}
 use Rattle.scope.specs.declared.Scope.{Scope}
 use Rattle.scope.specs.declared.Var.{Var}
-use Rattle.scope.specs.declared.Var.TheVariants as Var
 use Rattle.scope.specs.Shows.{var_of, var_as, slot_of, Low, bound, Shows}
 use Rattle.scope.proofs.Slots.{slot_none, shows_bind}
 

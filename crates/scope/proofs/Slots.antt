@@ -15,7 +15,6 @@ use Rattle.meaning.specs.Records as Records
 use Rattle.meaning.specs.Typing as Typing
 use Rattle.scope.specs.declared.Scope.{Scope}
 use Rattle.scope.specs.declared.Var.{Var}
-use Rattle.scope.specs.declared.Var.TheVariants as Var
 use Rattle.scope.specs.Shows.{var_of, slot_of, slot_var, bound, Shows}
 
 -- WHAT A WORD SAYS

@@ -1,6 +1,6 @@
 -- A scope of the code: what its words say, what binding does to them, and when it shows a scope of `meaning`.
 -- Assumes nothing.
-use Rattle.std.specs.Prelude.{◌≡◌, Bool, true, false, ℕ, ◌+◌, ◌*◌, ◌-◌, ◌/◌, ◌%◌, ◌<◌, ◌≤◌, eqb, get_or, set}
+use Rattle.std.specs.Prelude.{◌≡◌, true, false, ℕ, ◌+◌, ◌*◌, ◌-◌, ◌/◌, ◌%◌, ◌<◌, eqb, get_or, set}
 use Rattle.std.proofs.Math.Option.{Option, none, some}
 use Rattle.meaning.specs.Base.{find}
 use Rattle.meaning.specs.Kinds.{record·tree}
@@ -8,7 +8,6 @@ use Rattle.meaning.specs.Records as Records
 use Rattle.meaning.specs.Typing as Typing
 use Rattle.scope.specs.declared.Scope.{Scope}
 use Rattle.scope.specs.declared.Var.{Var}
-use Rattle.scope.specs.declared.Var.TheVariants as Var
 
 -- a variable that is found, or none
 abbrev pub var_of : Var → Option Records.Var

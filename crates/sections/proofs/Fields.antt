@@ -20,7 +20,6 @@ use Rattle.answers.specs.Parts.{Extends}
 use Rattle.answers.proofs.Extending.{extends_then, extends_word}
 use Rattle.records.specs.Says.{formed, Formed}
 use Rattle.records.specs.declared.Known.{Known}
-use Rattle.records.specs.declared.Known.TheVariants as Known
 use Rattle.records.specs.declared.Form as Code
 use Rattle.sections.specs.Says.{size_of}
 

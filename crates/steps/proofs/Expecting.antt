@@ -16,15 +16,12 @@ use Rattle.meaning.specs.Tokens
 use Rattle.meaning.specs.Tokens.{token_at}
 use Rattle.meaning.specs.Texts.{Here, here, expect, number_in, variable_at, test_at}
 use Rattle.tokens.specs.declared.Token.{Token}
-use Rattle.tokens.specs.declared.Token.TheVariants as Token
 use Rattle.tokens.specs.declared.Placed.{Placed}
 use Rattle.tokens.specs.Says.{kind_of, value_of, Tells}
 use Rattle.tokens.specs.contracts.Token as Kinds
 use Rattle.tokens.proofs.Inside.{token_within}
 use Rattle.steps.specs.declared.Went.{Went}
-use Rattle.steps.specs.declared.Went.TheVariants as Went
 use Rattle.steps.specs.declared.Got.{Got}
-use Rattle.steps.specs.declared.Got.TheVariants as Got
 use Rattle.steps.proofs.Choosing.{choose_first, choose_later, choose_none}
 use Rattle.steps.specs.Says.{went_of, Onward, WentOn, GotOn, Goes, Gives}
 

@@ -4,9 +4,7 @@ use Rattle.std.specs.Prelude.{◌≡◌, List, ℕ, ◌≤◌, ◌<◌, length}
 use Rattle.meaning.specs.Base.{Out, ok, refused}
 use Rattle.meaning.specs.Texts.{Here, here, Read}
 use Rattle.steps.specs.declared.Went.{Went}
-use Rattle.steps.specs.declared.Went.TheVariants as Went
 use Rattle.steps.specs.declared.Got.{Got}
-use Rattle.steps.specs.declared.Got.TheVariants as Got
 
 -- with so many nodes as there are, of which none is made
 abbrev pub went_of : ℕ → Went → Out Here

@@ -8,12 +8,11 @@ use Prim.Native.Nat.{ℕ, ◌*◌, ◌-◌, ◌≤◌}
 use native.Mathlib.Omega.{arith}
 use lib.Dec.{leb}
 use lib.ListN.{length, drop}
-use Rattle.meaning.specs.Base.{Out, ok, refused, ◌>>=◌, require, refuse_at, concat_map, zeros, caps_of, type_width, code_width}
+use Rattle.meaning.specs.Base.{Out, ok, refused, ◌>>=◌, require, refuse_at, zeros, caps_of, type_width, code_width}
 use Rattle.meaning.specs.Records.{Tables}
 use Rattle.meaning.specs.Queries.{Query, query_at}
 use Rattle.meaning.specs.Typing.{read_types, read_code}
 use Rattle.meaning.specs.Checks.{read_job}
-use Rattle.meaning.specs.Texts.{fitted}
 use Rattle.meaning.specs.Written.{least, deep_query, text_of, Spoken, spoken, write_text}
 use Rattle.meaning.proofs.Ends.{ends_ok}
 use Rattle.meaning.proofs.Reading.{caps_of_small}
@@ -28,12 +27,10 @@ use Rattle.jobs.specs.Says as Jobs
 use Rattle.jobs.proofs.Checking.{held_stored}
 use Rattle.jobs.proofs.Telling.{job_accepted, job_refused}
 use Rattle.written.specs.declared.Written.{Written}
-use Rattle.written.specs.declared.Written.TheVariants as Written
 use Rattle.written.specs.Says as Writes
 use Rattle.written.specs.Says.{root_of, Ready}
 use Rattle.written.proofs.Whole.{accepted_ready}
 use Rattle.texts.specs.declared.Answer.{Answer}
-use Rattle.texts.specs.declared.Answer.TheVariants as Answer
 use Rattle.texts.specs.Says.{answer_of, Left, speaking, Settled}
 
 -- HOW A TEXT ENDS: it fits, something is too deep, or it is too long

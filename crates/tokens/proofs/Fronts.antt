@@ -12,7 +12,6 @@ use Rattle.meaning.specs.Forests.{same_words}
 use Rattle.meaning.specs.Tokens
 use Rattle.meaning.specs.Tokens.{is_blank, is_letter, is_digit, words, signs, run, word_among, sign_among, decimal, front, token_at}
 use Rattle.tokens.specs.declared.Token.{Token}
-use Rattle.tokens.specs.declared.Token.TheVariants as Token
 use Rattle.tokens.specs.declared.Placed.{Placed}
 use Rattle.tokens.specs.declared.Sign.{Sign}
 use Rattle.tokens.specs.Says.{Digits, Shows, Draws, Tells}

@@ -3,9 +3,7 @@
 use Rattle.std.specs.Prelude.{◌≡◌, Bool, true, List, ℕ, ◌+◌, ◌<◌, min, length, get_or}
 use Rattle.meaning.specs.Tokens
 use Rattle.tokens.specs.declared.Class.{Class}
-use Rattle.tokens.specs.declared.Class.TheVariants as Class
 use Rattle.tokens.specs.declared.Token.{Token}
-use Rattle.tokens.specs.declared.Token.TheVariants as Token
 use Rattle.tokens.specs.declared.Placed.{Placed}
 use Rattle.tokens.specs.declared.Sign.{Sign}
 

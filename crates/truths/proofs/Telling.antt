@@ -18,7 +18,6 @@ use Rattle.words.specs.Tables.{node_in}
 use Rattle.uses.specs.Counts.{Coded}
 use Rattle.conds.specs.Says.{cond_of, Says}
 use Rattle.conds.specs.declared.Cond.{Cond}
-use Rattle.conds.specs.declared.Cond.TheVariants as Cond
 use Rattle.conds.proofs.Going.{here, cond_is}
 use Rattle.spans.specs.Shows.{part, Shows}
 use Rattle.spans.proofs.Parts.{part_length}

@@ -23,19 +23,15 @@ use Rattle.scope.specs.declared.Scope.{Scope}
 use Rattle.scope.specs.Shows.{Shows}
 use Rattle.grow.specs.Grow.{Left, answer_of, After}
 use Rattle.grow.specs.declared.Made.{Made}
-use Rattle.grow.specs.declared.Made.TheVariants as Made
 use Rattle.conds.proofs.Told.{shown, shows_shown}
 use Rattle.leaves.specs.Walk.{Within, Begins, walked}
 use Rattle.joins.proofs.Growing.{walk_count, within_more}
 use Rattle.typing.specs.declared.Next.{Next}
-use Rattle.typing.specs.declared.Next.TheVariants as Next
 use Rattle.typing.specs.declared.Step.{Step}
 use Rattle.typing.specs.declared.Ask.{Ask}
 use Rattle.typing.specs.declared.Entering.{Entering}
-use Rattle.typing.specs.declared.Entering.TheVariants as Entering
 use Rattle.typing.specs.declared.Bind.{Bind}
 use Rattle.typing.specs.declared.Leaving.{Leaving}
-use Rattle.typing.specs.declared.Leaving.TheVariants as Leaving
 use Rattle.typing.specs.Walking as Walking
 use Rattle.typing.specs.Walking.{onward, binder, named, inside, outside, Kept, Freed, size, cost, rose, variable_of, body_of, binding, Here, Framed, Goes, Enters, Turns, Leaves, Typed}
 use Rattle.typing.proofs.Onward.{size_some, enters_plain, enters_still}

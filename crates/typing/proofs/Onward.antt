@@ -17,9 +17,7 @@ use Rattle.scope.specs.declared.Scope.{Scope}
 use Rattle.scope.specs.Shows.{Shows}
 use Rattle.conds.specs.Says.{verdict, Answers}
 use Rattle.conds.specs.declared.Verdict.{Verdict}
-use Rattle.conds.specs.declared.Verdict.TheVariants as Verdict
 use Rattle.grow.specs.declared.Made.{Made}
-use Rattle.grow.specs.declared.Made.TheVariants as Made
 use Rattle.leaves.specs.Walk.{Begins, walked, Walks}
 use Rattle.leaves.specs.declared.Walked.{Walked}
 use Rattle.leaves.proofs.Steps.{left_refused}
@@ -29,11 +27,9 @@ use Rattle.queries.proofs.Named.{query_is}
 use Rattle.joins.specs.Joins.{sourced}
 use Rattle.joins.proofs.Composed.{walked_element, walked_pair, walked_when, walked_when_not, walked_let, walked_for}
 use Rattle.typing.specs.declared.Next.{Next}
-use Rattle.typing.specs.declared.Next.TheVariants as Next
 use Rattle.typing.specs.declared.Step.{Step}
 use Rattle.typing.specs.declared.Ask.{Ask}
 use Rattle.typing.specs.declared.Entering.{Entering}
-use Rattle.typing.specs.declared.Entering.TheVariants as Entering
 use Rattle.typing.specs.Walking as Walking
 use Rattle.typing.specs.Walking.{onward, size, cost, rose, stepped, begun, asking, Goes, Enters, Guards}
 

@@ -19,12 +19,9 @@ use Rattle.queries.specs.contracts.Query as Kinds
 use Rattle.queries.proofs.Named.{for_low, let_low}
 use Rattle.leaves.specs.Walk.{Begins}
 use Rattle.typing.specs.declared.Next.{Next}
-use Rattle.typing.specs.declared.Next.TheVariants as Next
 use Rattle.typing.specs.declared.Step.{Step}
 use Rattle.typing.specs.declared.Bind.{Bind}
-use Rattle.typing.specs.declared.Bind.TheVariants as Bind
 use Rattle.typing.specs.declared.Leaving.{Leaving}
-use Rattle.typing.specs.declared.Leaving.TheVariants as Leaving
 use Rattle.typing.specs.Walking as Walking
 use Rattle.typing.specs.Walking.{onward, binder, Kept, Framed, variable_of, body_of, binding, Turns, Leaves}
 use Rattle.typing.proofs.Onward.{asked}

@@ -35,7 +35,6 @@ use Rattle.scope.specs.Shows.{Shows, slot_of, slot_var, bound}
 use Rattle.scope.proofs.Slots.{slot_none}
 use Rattle.grow.specs.Grow.{Left, New}
 use Rattle.grow.specs.declared.Made.{Made}
-use Rattle.grow.specs.declared.Made.TheVariants as Made
 use Rattle.grow.proofs.Entries.{new_element, new_pair}
 use Rattle.grow.proofs.Steps.{left_here, left_stop, left_ready, after_ok, made, kept_count}
 use Rattle.walks.proofs.Grown.{prime_count}
@@ -45,7 +44,6 @@ use Rattle.leaves.proofs.Steps.{left_as}
 use Rattle.joins.specs.Joins.{Adds, Repeats, Frees, loop}
 use Rattle.joins.proofs.Growing.{within_more, within_bind}
 use Rattle.typing.specs.declared.Next.{Next}
-use Rattle.typing.specs.declared.Next.TheVariants as Next
 use Rattle.typing.specs.declared.Step.{Step}
 use Rattle.typing.specs.Walking as Walking
 use Rattle.typing.specs.Walking.{onward, binder, named, inside, outside, Kept, Free, Freed, size, cost, rose, stepped, Turns}

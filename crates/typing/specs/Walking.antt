@@ -18,27 +18,20 @@ use Rattle.uses.specs.Counts.{Coded}
 use Rattle.classes.specs.Classes.{class_of}
 use Rattle.scope.specs.declared.Scope.{Scope}
 use Rattle.scope.specs.declared.Var.{Var}
-use Rattle.scope.specs.declared.Var.TheVariants as Var
 use Rattle.scope.specs.Shows.{Shows, slot_of, bound}
 use Rattle.grow.specs.Grow.{Left}
 use Rattle.grow.specs.declared.Made.{Made}
-use Rattle.grow.specs.declared.Made.TheVariants as Made
 use Rattle.leaves.specs.Walk.{Begins, walked, Walks}
 use Rattle.leaves.specs.declared.Walked.{Walked}
 use Rattle.queries.specs.Says.{Says}
 use Rattle.queries.specs.declared.Query as Nodes
 use Rattle.joins.specs.Joins.{loop}
 use Rattle.typing.specs.declared.Next.{Next}
-use Rattle.typing.specs.declared.Next.TheVariants as Next
 use Rattle.typing.specs.declared.Step.{Step}
 use Rattle.typing.specs.declared.Ask.{Ask}
-use Rattle.typing.specs.declared.Ask.TheVariants as Ask
 use Rattle.typing.specs.declared.Entering.{Entering}
-use Rattle.typing.specs.declared.Entering.TheVariants as Entering
 use Rattle.typing.specs.declared.Bind.{Bind}
-use Rattle.typing.specs.declared.Bind.TheVariants as Bind
 use Rattle.typing.specs.declared.Leaving.{Leaving}
-use Rattle.typing.specs.declared.Leaving.TheVariants as Leaving
 
 -- WHAT IS LEFT OF A QUERY in a scope, when a part of it has answered o. It keeps 0 while its first part is done. While its second part is done it keeps
 -- one more than a number: a pair its first part's entry, a for its source's class.

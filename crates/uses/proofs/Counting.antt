@@ -22,7 +22,6 @@ use Rattle.words.proofs.Tables.{code_length, code_at}
 use Rattle.words.proofs.Entries.{node_at_lem}
 use Rattle.uses.specs.Counts.{uses_in, Room, Counted, Coded}
 use Rattle.uses.specs.declared.Uses.{Uses}
-use Rattle.uses.specs.declared.Uses.TheVariants as Uses
 use Rattle.uses.proofs.Counts.{count_most, concat_more, counted_none, counted_both}
 
 -- the words that were read at a node's place

@@ -14,7 +14,6 @@ use Rattle.meaning.specs.Base.{first, later, count, concat_map}
 use Rattle.meaning.proofs.Lists.{in_cons, in_none}
 use Rattle.uses.specs.Counts.{uses_in, Room, Counted}
 use Rattle.uses.specs.declared.Uses.{Uses}
-use Rattle.uses.specs.declared.Uses.TheVariants as Uses
 
 pub count_append : (q : ℕ) (ps qs : List ℕ) → count q (ps ++ qs) ≡ count q ps + count q qs
 unfolding count

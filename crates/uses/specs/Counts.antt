@@ -6,7 +6,6 @@ use Rattle.meaning.specs.Records.{Node}
 use Rattle.meaning.specs.Formed.{NodeLow}
 use Rattle.words.specs.Tables.{code_of}
 use Rattle.uses.specs.declared.Uses.{Uses}
-use Rattle.uses.specs.declared.Uses.TheVariants as Uses
 
 -- the nodes that a node names
 abbrev pub uses_in : Uses → List ℕ

@@ -12,9 +12,7 @@ use Rattle.meaning.specs.Records.{Record, field}
 use Rattle.meaning.specs.Values.{Part, read_forest}
 use Rattle.words.specs.declared.Found.{Found}
 use Rattle.values.specs.declared.Due.{Due}
-use Rattle.values.specs.declared.Due.TheVariants as Due
 use Rattle.values.specs.declared.Went.{Went}
-use Rattle.values.specs.declared.Went.TheVariants as Went
 use Rattle.values.specs.declared.Line.{Line}
 use Rattle.values.specs.Says.{Shows, Stands, entry_at, words_of, Deep, whole, short, Adds, Reads, wrong, reached}
 use Rattle.values.proofs.Standing.{refuses, seen}

@@ -11,7 +11,6 @@ use borrow.Author.Tests.{le-leb, lt-leb}
 use Rattle.meaning.specs.Base.{forest_width}
 use Rattle.words.specs.Tables.{stored}
 use Rattle.words.specs.declared.Found.{Found}
-use Rattle.words.specs.declared.Found.TheVariants as Found
 use Rattle.words.proofs.Rows.{stored_length}
 use Rattle.values.specs.declared.Line.{Line}
 use Rattle.values.specs.Says.{words_of, overfull, Keeping, Adds}

@@ -6,7 +6,6 @@ use mathlib.Core.List.{List, [], ◌∷◌, ◌++◌, append_assoc, append-nil}
 use mathlib.Core.Option.{Option, none, some}
 use Prim.Native.Nat.{ℕ, suc, ◌+◌, ◌*◌, ◌≤◌, ◌<◌, min}
 use native.Mathlib.Omega.{arith}
-use native.Mathlib.Nat.{sub-zero}
 use lib.Dec.{leb, ltb}
 use lib.ListN.{length, get_or, set, drop, length-append, length-set}
 use lib.Seq.{drop-cons, drop-length, set_split}
@@ -19,13 +18,11 @@ use Rattle.meaning.proofs.Forests.{join_end, join_assoc, size_join, words_join, 
 use Rattle.words.specs.Tables.{stored, var_in, vars_of}
 use Rattle.words.specs.declared.Entry.{Entry}
 use Rattle.words.specs.declared.Found.{Found}
-use Rattle.words.specs.declared.Found.TheVariants as Found
 use Rattle.words.specs.Says.{found}
 use Rattle.words.proofs.Rows.{zeros_length, stored_behind}
 use Rattle.words.proofs.Tables.{vars_length, vars_at}
 use Rattle.uses.proofs.Counts.{concat_more}
 use Rattle.values.specs.declared.Valued.{Valued}
-use Rattle.values.specs.declared.Valued.TheVariants as Valued
 use Rattle.values.specs.declared.Scan.{Scan}
 use Rattle.values.specs.Says.{ends_from, ends_of, Keeping, Adds, Gives, place_if, earlier_of, Blank, Scans}
 use Rattle.values.specs.Says as Says

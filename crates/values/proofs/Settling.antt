@@ -18,7 +18,6 @@ use Rattle.meaning.proofs.Forests.{length_words}
 use Rattle.words.specs.Says.{found}
 use Rattle.values.specs.declared.Scan.{Scan}
 use Rattle.values.specs.declared.Verdict.{Verdict}
-use Rattle.values.specs.declared.Verdict.TheVariants as Verdict
 use Rattle.values.specs.declared.Answer.TheVariants as Answer
 use Rattle.values.specs.declared.Loaded.{Loaded}
 use Rattle.values.specs.Says as Says

@@ -17,7 +17,6 @@ use Rattle.meaning.specs.Values.{Part, read_forest}
 use Rattle.meaning.proofs.Forests.{trees_none, size_none}
 use Rattle.meaning.proofs.Values.{forest_ends}
 use Rattle.values.specs.declared.Due.{Due}
-use Rattle.values.specs.declared.Due.TheVariants as Due
 use Rattle.values.specs.declared.Line.{Line}
 use Rattle.values.specs.Says.{Stands, entry_at, Single, Odd}
 use Rattle.values.proofs.Standing.{refuses, seen}

@@ -15,12 +15,10 @@ use Rattle.meaning.specs.Records.{Record, field, record_at, all_fit}
 use Rattle.meaning.specs.Values.{value_at}
 use Rattle.records.specs.declared.Item.{Item}
 use Rattle.records.specs.declared.Rec.{Rec}
-use Rattle.records.specs.declared.Rec.TheVariants as Rec
 use Rattle.records.specs.Says as Found
 use Rattle.records.specs.Says.{item_of, rec_of, Filled}
 use Rattle.records.proofs.Found.{there as known-there}
 use Rattle.values.specs.declared.Due.{Due}
-use Rattle.values.specs.declared.Due.TheVariants as Due
 use Rattle.values.specs.declared.Line.{Line}
 use Rattle.values.specs.Says.{Shows, Stands, wrong, there, fitted, is_entry, entry_at, head_at}
 

@@ -14,12 +14,9 @@ use Rattle.meaning.specs.Values.{value_at, Part, read_forest, read_value}
 use Rattle.meaning.proofs.Values.{value_ends, forest_ends}
 use Rattle.words.specs.declared.Found.{Found}
 use Rattle.values.specs.declared.Due.{Due}
-use Rattle.values.specs.declared.Due.TheVariants as Due
 use Rattle.values.specs.declared.Line.{Line}
 use Rattle.values.specs.declared.Went.{Went}
-use Rattle.values.specs.declared.Went.TheVariants as Went
 use Rattle.values.specs.declared.Valued.{Valued}
-use Rattle.values.specs.declared.Valued.TheVariants as Valued
 use Rattle.values.specs.Says.{Stands, head_at, Reads, wrong, reached, Odd, Gives, read}
 use Rattle.values.proofs.Standing.{refuses, seen}
 use Rattle.values.proofs.Stepping.{of_ok, by_value, bound, tested_ok}

@@ -11,14 +11,10 @@ use Rattle.words.specs.declared.Found.{Found}
 use Rattle.words.specs.Says.{found}
 use Rattle.values.specs.declared.Line.{Line}
 use Rattle.values.specs.declared.Due.{Due}
-use Rattle.values.specs.declared.Due.TheVariants as Due
 use Rattle.values.specs.declared.Went.{Went}
-use Rattle.values.specs.declared.Went.TheVariants as Went
 use Rattle.values.specs.declared.Valued.{Valued}
-use Rattle.values.specs.declared.Valued.TheVariants as Valued
 use Rattle.values.specs.declared.Scan.{Scan}
 use Rattle.values.specs.declared.Verdict.{Verdict}
-use Rattle.values.specs.declared.Verdict.TheVariants as Verdict
 use Rattle.values.specs.declared.Answer.TheVariants as Answer
 use Rattle.values.specs.declared.Loaded.{Loaded}
 

@@ -20,9 +20,7 @@ use Rattle.meaning.proofs.Shapes.{shape_empty, shape_string, shape_element, shap
 use Rattle.grow.proofs.Entries.{element_low, name_low}
 use Rattle.acts.specs.Acts.{does, prime_of, content_of, sift_of, act_of}
 use Rattle.acts.specs.declared.Mode.{Mode}
-use Rattle.acts.specs.declared.Mode.TheVariants as Mode
 use Rattle.acts.specs.declared.Act.{Act}
-use Rattle.acts.specs.declared.Act.TheVariants as Act
 use Rattle.walks.specs.Frames.{Frame, half, alone, joined, second, Paired}
 use Rattle.walks.proofs.Tall.{size, tall, tall_falls}
 

@@ -13,7 +13,6 @@ use Rattle.meaning.specs.Rules.{content, sift, filter, child_rule}
 use Rattle.words.specs.Tables.{table_of}
 use Rattle.grow.specs.Grow.{Left}
 use Rattle.grow.specs.declared.Made.{Made}
-use Rattle.grow.specs.declared.Made.TheVariants as Made
 use Rattle.grow.proofs.Steps.{left_stop, left_after}
 
 module _ (room node : ℕ) (D : Defs) (e : ℕ) (T : Table) {test : ℕ} where

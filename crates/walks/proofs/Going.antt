@@ -16,18 +16,14 @@ use Rattle.words.proofs.Tables.{table_length}
 use Rattle.words.proofs.Entries.{kind_pair, kind_union, kind_star, kind_plus, kind_opt}
 use Rattle.grow.specs.Grow.{Ready, Left, New, answer_of}
 use Rattle.grow.specs.declared.Made.{Made}
-use Rattle.grow.specs.declared.Made.TheVariants as Made
 use Rattle.grow.proofs.Entries.{new_pair, new_union, new_star, new_plus, new_opt}
 use Rattle.grow.proofs.Steps.{left_ready, after_ok, after_refused, kept_table, appended, appended_grows}
 use Rattle.acts.specs.Acts.{Place, does, act_of}
 use Rattle.acts.specs.declared.Mode.{Mode}
 use Rattle.acts.specs.declared.Act.{Act}
-use Rattle.acts.specs.declared.Act.TheVariants as Act
 use Rattle.walks.specs.Frames.{Frame, half, alone, joined, frame_of, second, Paired, Halved, down_of, pushed, then_of}
 use Rattle.walks.specs.declared.Next.{Next}
-use Rattle.walks.specs.declared.Next.TheVariants as Next
 use Rattle.walks.specs.declared.Then.{Then}
-use Rattle.walks.specs.declared.Then.TheVariants as Then
 use Rattle.walks.proofs.Tall.{size, tall, tall_most}
 use Rattle.walks.proofs.Stack.{says_half, says_alone, says_joined, frames, frames_set}
 use Rattle.walks.proofs.Acting.{Inner, run, Says, answers, goes, halves, starts, second_inner, acting}

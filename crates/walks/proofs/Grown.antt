@@ -14,7 +14,6 @@ use Rattle.words.specs.Tables.{table_of}
 use Rattle.words.proofs.Tables.{table_length}
 use Rattle.grow.specs.Grow.{Ready, Left}
 use Rattle.grow.specs.declared.Made.{Made}
-use Rattle.grow.specs.declared.Made.TheVariants as Made
 use Rattle.grow.proofs.Steps.{made, kept_count}
 
 pub prime_count : {D : Defs} {ws us cs ds : List ℕ} {n e l m : ℕ} (node : ℕ) {r : Made} → Ready D ws cs n → e < n

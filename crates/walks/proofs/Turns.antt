@@ -17,12 +17,9 @@ use Rattle.grow.specs.Grow.{Shows}
 use Rattle.acts.specs.Acts.{act_of}
 use Rattle.acts.specs.declared.Mode.{Mode}
 use Rattle.acts.specs.declared.Act.{Act}
-use Rattle.acts.specs.declared.Act.TheVariants as Act
 use Rattle.walks.specs.Frames.{frame_of, second, Paired, Halved, down_of, pushed, then_of}
 use Rattle.walks.specs.declared.Next.{Next}
-use Rattle.walks.specs.declared.Next.TheVariants as Next
 use Rattle.walks.specs.declared.Then.{Then}
-use Rattle.walks.specs.declared.Then.TheVariants as Then
 use Rattle.walks.proofs.Stack.{frame_half, frame_alone, frame_joined}
 use Rattle.walks.proofs.Acting.{Says, halves, starts, acting}
 

@@ -3,11 +3,8 @@
 use Rattle.std.specs.Prelude.{cond, List, ℕ, suc, ◌+◌, ◌*◌, ◌-◌, ◌/◌, ◌%◌, ◌<◌, ltb, length, set}
 use Rattle.meaning.specs.Types.{Entry, Table, at, empty, string, element, pair, union, star, plus, opt, name}
 use Rattle.acts.specs.declared.Act.{Act}
-use Rattle.acts.specs.declared.Act.TheVariants as Act
 use Rattle.walks.specs.declared.Next.{Next}
-use Rattle.walks.specs.declared.Next.TheVariants as Next
 use Rattle.walks.specs.declared.Then.{Then}
-use Rattle.walks.specs.declared.Then.TheVariants as Then
 
 -- what is begun: an entry of kind k is to be appended
 pub data Frame : Type 0 where

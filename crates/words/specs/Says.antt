@@ -4,9 +4,7 @@ use Rattle.std.proofs.Math.Option.{Option, none, some}
 use Rattle.std.specs.Prelude.{ℕ}
 use Rattle.meaning.specs.Forests as Forests
 use Rattle.words.specs.declared.Found.{Found}
-use Rattle.words.specs.declared.Found.TheVariants as Found
 use Rattle.words.specs.declared.Head.{Head}
-use Rattle.words.specs.declared.Head.TheVariants as Head
 
 -- what was looked for
 abbrev pub found : Found → Option ℕ

@@ -14,7 +14,6 @@ use Rattle.meaning.specs.Texts.{fitted}
 use Rattle.meaning.specs.Written.{text_of, deep_query, least, spoken}
 use Rattle.words.specs.Says.{found}
 use Rattle.words.specs.declared.Found.{Found}
-use Rattle.words.specs.declared.Found.TheVariants as Found
 use Rattle.words.proofs.Stores.{blanked_whole}
 use Rattle.written.specs.declared.Told.{Told}
 use Rattle.written.specs.declared.Written.TheVariants.{Bytes, Deep, Short}

@@ -10,7 +10,6 @@ use borrow.Author.Tests.{not-true, not-false, lt-ltb, le-ltb}
 use Rattle.meaning.specs.Written.{least}
 use Rattle.words.specs.Says.{found}
 use Rattle.words.specs.declared.Found.{Found}
-use Rattle.words.specs.declared.Found.TheVariants as Found
 use Rattle.written.specs.Says.{lowered, joined, owns, inside}
 
 pub joined_append : (o : Option ℕ) (ms ns : List ℕ) → joined o (ms ++ ns) ≡ joined (joined o ms) ns

@@ -16,7 +16,6 @@ use Rattle.words.specs.Says.{found}
 use Rattle.words.specs.Tables.{code_of}
 use Rattle.words.specs.declared.Entry as Words
 use Rattle.words.specs.declared.Found.{Found}
-use Rattle.words.specs.declared.Found.TheVariants as Found
 use Rattle.words.proofs.Tables.{code_length}
 use Rattle.words.proofs.Entries.{Read}
 use Rattle.spelling.specs.Says.{Spells}

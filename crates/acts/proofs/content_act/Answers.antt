@@ -4,7 +4,6 @@ use mathlib.Core.Path.{ap, ◌∙◌}
 use native.Mathlib.Omega.{arith}
 use Rattle.acts.proofs.Reading.{content_child, content_none, content_two}
 use Rattle.acts.specs.declared.Act.TheVariants as Act
-use borrow.Author.Rules.{rules}
 use Rattle.acts.proofs.content_act.Goals as goal
 
 pub returns-then-kind-eq3 : goal.returns-then-kind-eq3

@@ -1,7 +1,6 @@
 -- `acts::look` meets its contract.
 -- Assumes nothing.
 use Rattle.acts.proofs.Reading.{name_inside, looked_prime, looked_content, looked_sift}
-use borrow.Author.Rules.{rules}
 use Rattle.acts.proofs.look.Goals as goal
 
 pub read-w-requires : goal.read-w-requires

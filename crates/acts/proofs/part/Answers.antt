@@ -1,7 +1,6 @@
 -- `acts::part` meets its contract.
 -- Assumes nothing.
 use native.Mathlib.Omega.{arith}
-use borrow.Author.Rules.{rules}
 use Rattle.acts.proofs.part.Goals as goal
 
 pub bounds-defs-i : goal.bounds-defs-i

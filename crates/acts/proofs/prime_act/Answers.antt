@@ -3,7 +3,6 @@
 use mathlib.Core.Path.{ap, ◌∙◌}
 use Rattle.acts.proofs.Reading.{prime_low, prime_high, prime_two, prime_into}
 use Rattle.acts.specs.declared.Act.TheVariants as Act
-use borrow.Author.Rules.{rules}
 use Rattle.acts.proofs.prime_act.Goals as goal
 
 pub returns-then-kind-lt4 : goal.returns-then-kind-lt4

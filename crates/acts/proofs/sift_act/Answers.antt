@@ -2,7 +2,6 @@
 -- Assumes nothing.
 use native.Mathlib.Omega.{arith}
 use Rattle.acts.proofs.Reading.{sift_text, sift_element, sift_low, sift_high, sift_first, sift_into}
-use borrow.Author.Rules.{rules}
 use Rattle.acts.proofs.sift_act.Goals as goal
 
 pub returns-then-kind-eq2 : goal.returns-then-kind-eq2

@@ -1,7 +1,6 @@
 -- `answers::put_defs` meets its contract: the records so far stand behind what the buffer held (`Defining`).
 -- Assumes nothing.
-use Prim.Native.Nat.{◌-◌, ◌≤◌}
-use Rattle.answers.proofs.Turns.{Defining, defining_none, defining_more, defining_all}
+use Rattle.answers.proofs.Turns.{defining_none, defining_more, defining_all}
 use native.Mathlib.Omega.{arith}
 use borrow.Author.Rules.{rules}
 use Rattle.answers.proofs.put_defs.Goals as goal

@@ -1,8 +1,7 @@
 -- `answers::put_defs` meets its contract: the records so far stand behind what the buffer held (`Defining`).
 -- Assumes nothing.
 use Prim.Native.Nat.{◌-◌, ◌≤◌}
-use Rattle.answers.proofs.Turns.{Defining, defining_none, defining_more, defining_all}
-use native.Mathlib.Omega.{arith}
+use Rattle.answers.proofs.Turns.{Defining}
 use Rattle.answers.proofs.put_defs.Given as goal
 
 abbrev pub invariant-loop-left : goal.invariant-loop-left

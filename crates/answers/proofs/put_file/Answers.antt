@@ -2,7 +2,6 @@
 -- Assumes nothing.
 use native.Mathlib.Omega.{arith}
 use Rattle.answers.proofs.Whole.{typed, defs_length, file_length, file_put}
-use borrow.Author.Rules.{rules}
 use Rattle.answers.proofs.put_file.Goals as goal
 
 pub put_types-from-requires : goal.put_types-from-requires

@@ -2,7 +2,6 @@
 -- Assumes nothing.
 use native.Mathlib.Omega.{arith}
 use Rattle.answers.proofs.Extending.{start_put}
-use borrow.Author.Rules.{rules}
 use Rattle.answers.proofs.put_start.Goals as goal
 
 pub returns : goal.returns

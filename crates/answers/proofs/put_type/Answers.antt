@@ -2,7 +2,6 @@
 -- Assumes nothing.
 use native.Mathlib.Omega.{arith}
 use Rattle.answers.proofs.Fields.{two_length, one_length, two_put, one_put}
-use borrow.Author.Rules.{rules}
 use Rattle.answers.proofs.put_type.Goals as goal
 
 pub put_start-requires : goal.put_start-requires

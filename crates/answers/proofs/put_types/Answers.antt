@@ -1,9 +1,7 @@
 -- `answers::put_types` meets its contract: the records so far stand in the buffer (`Typing`).
 -- Assumes nothing.
-use Prim.Native.Nat.{◌-◌}
 use Rattle.answers.proofs.Fields.{kind_recorded}
-use Rattle.answers.proofs.Turns.{Typing, typing_none, typing_more, typing_room, typing_all}
-use borrow.Author.Rules.{rules}
+use Rattle.answers.proofs.Turns.{typing_none, typing_more, typing_room, typing_all}
 use Rattle.answers.proofs.put_types.Goals as goal
 
 pub loop-e-init : goal.loop-e-init

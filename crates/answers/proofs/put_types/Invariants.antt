@@ -1,8 +1,7 @@
 -- `answers::put_types` meets its contract: the records so far stand in the buffer (`Typing`).
 -- Assumes nothing.
 use Prim.Native.Nat.{◌-◌}
-use Rattle.answers.proofs.Fields.{kind_recorded}
-use Rattle.answers.proofs.Turns.{Typing, typing_none, typing_more, typing_room, typing_all}
+use Rattle.answers.proofs.Turns.{Typing}
 use Rattle.answers.proofs.put_types.Given as goal
 
 abbrev pub invariant-loop-e : goal.invariant-loop-e

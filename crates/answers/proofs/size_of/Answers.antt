@@ -2,7 +2,6 @@
 -- Assumes nothing.
 use mathlib.Core.Path.{sym}
 use Rattle.answers.proofs.Fields.{two_length, one_length}
-use borrow.Author.Rules.{rules}
 use Rattle.answers.proofs.size_of.Goals as goal
 
 pub returns-then-kind-lt6 : goal.returns-then-kind-lt6

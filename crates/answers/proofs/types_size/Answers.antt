@@ -1,10 +1,8 @@
 -- `answers::types_size` meets its contract: the bytes so far, with those to come, are the whole (`Sizing`).
 -- Assumes nothing.
-use Prim.Native.Nat.{◌-◌}
 use native.Mathlib.Omega.{arith}
 use Rattle.answers.proofs.Fields.{kind_recorded}
-use Rattle.answers.proofs.Turns.{Sizing, sizing_none, sizing_more, sizing_room, sizing_all}
-use borrow.Author.Rules.{rules}
+use Rattle.answers.proofs.Turns.{sizing_none, sizing_more, sizing_room, sizing_all}
 use Rattle.answers.proofs.types_size.Goals as goal
 
 pub loop-i-init : goal.loop-i-init

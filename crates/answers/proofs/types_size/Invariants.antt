@@ -1,9 +1,7 @@
 -- `answers::types_size` meets its contract: the bytes so far, with those to come, are the whole (`Sizing`).
 -- Assumes nothing.
 use Prim.Native.Nat.{◌-◌}
-use native.Mathlib.Omega.{arith}
-use Rattle.answers.proofs.Fields.{kind_recorded}
-use Rattle.answers.proofs.Turns.{Sizing, sizing_none, sizing_more, sizing_room, sizing_all}
+use Rattle.answers.proofs.Turns.{Sizing}
 use Rattle.answers.proofs.types_size.Given as goal
 
 abbrev pub invariant-loop-i : goal.invariant-loop-i

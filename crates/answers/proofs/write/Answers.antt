@@ -3,7 +3,6 @@
 use Rattle.words.proofs.Stores.{blanked_whole}
 use Rattle.answers.proofs.Whole.{typed, file_length, file_small, result_small, left_short, left_written}
 use native.Mathlib.Omega.{arith}
-use borrow.Author.Rules.{rules}
 use Rattle.answers.proofs.write.Goals as goal
 
 pub types_size-requires : goal.types_size-requires

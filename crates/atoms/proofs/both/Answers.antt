@@ -1,6 +1,5 @@
 -- `atoms::both` meets its contract: the first part's mark decides whether the second's is the answer. Assumes nothing.
 use Rattle.atoms.proofs.Entries.{both_marked, not_marked}
-use borrow.Author.Rules.{rules}
 use Rattle.atoms.proofs.both.Goals as goal
 
 pub returns-then-marks-a-eq1 : goal.returns-then-marks-a-eq1

@@ -1,7 +1,5 @@
 -- `atoms::first_tangled` meets its contract: so many variables are not tangled (`Seeking`); the measure is how many are left. Assumes nothing.
-use Prim.Native.Nat.{◌-◌}
-use Rattle.atoms.proofs.Variables.{Seeking, seeking_none, seeking_more, seeking_here, seeking_all, type_inside}
-use borrow.Author.Rules.{rules}
+use Rattle.atoms.proofs.Variables.{seeking_none, seeking_more, seeking_here, seeking_all, type_inside}
 use Rattle.atoms.proofs.first_tangled.Goals as goal
 
 pub loop-i-init : goal.loop-i-init

@@ -1,6 +1,6 @@
 -- `atoms::first_tangled` meets its contract: so many variables are not tangled (`Seeking`); the measure is how many are left. Assumes nothing.
 use Prim.Native.Nat.{◌-◌}
-use Rattle.atoms.proofs.Variables.{Seeking, seeking_none, seeking_more, seeking_here, seeking_all, type_inside}
+use Rattle.atoms.proofs.Variables.{Seeking}
 use Rattle.atoms.proofs.first_tangled.Given as goal
 
 abbrev pub invariant-loop-i : goal.invariant-loop-i

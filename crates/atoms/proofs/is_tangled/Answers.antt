@@ -1,6 +1,5 @@
 -- `atoms::is_tangled` meets its contract: a tree variable by its type's mark, a forest variable never. Assumes nothing.
 use Rattle.atoms.proofs.Variables.{tree_tangled, forest_tangled}
-use borrow.Author.Rules.{rules}
 use Rattle.atoms.proofs.is_tangled.Goals as goal
 
 pub returns-then-kind-eq17 : goal.returns-then-kind-eq17

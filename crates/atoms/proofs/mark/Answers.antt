@@ -1,7 +1,6 @@
 -- `atoms::mark` meets its contract: one way for each kind that can have nothing but unions of atoms, and one for all others. Assumes nothing.
 use native.Mathlib.Omega.{arith}
 use Rattle.atoms.proofs.Entries.{atoms_string, atoms_element, atoms_union, atoms_other}
-use borrow.Author.Rules.{rules}
 use Rattle.atoms.proofs.mark.Goals as goal
 
 pub both-requires : goal.both-requires

@@ -1,6 +1,5 @@
 -- `atoms::mark_atoms` meets its contract: so many entries have their marks (`Marking`); the measure is how many have none yet. Assumes nothing.
-use Prim.Native.Nat.{◌-◌}
-use Rattle.atoms.proofs.Marking.{Marking, marking_none, marking_more, marking_all, parts_inside}
+use Rattle.atoms.proofs.Marking.{marking_none, marking_more, marking_all, parts_inside}
 use borrow.Author.Rules.{rules}
 use Rattle.atoms.proofs.mark_atoms.Goals as goal
 

@@ -1,6 +1,6 @@
 -- `atoms::mark_atoms` meets its contract: so many entries have their marks (`Marking`); the measure is how many have none yet. Assumes nothing.
 use Prim.Native.Nat.{◌-◌}
-use Rattle.atoms.proofs.Marking.{Marking, marking_none, marking_more, marking_all, parts_inside}
+use Rattle.atoms.proofs.Marking.{Marking}
 use Rattle.atoms.proofs.mark_atoms.Given as goal
 
 abbrev pub invariant-loop-e : goal.invariant-loop-e

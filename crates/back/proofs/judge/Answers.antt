@@ -1,9 +1,7 @@
 -- `back::judge` meets its contract: 8, then what the check of types and definitions answers. Assumes nothing.
 use mathlib.Core.Path.{ap, sym, ◌∙◌}
-use borrow.Author.Tests.{not-true, not-false}
 use Rattle.guard.specs.Says.{outcome}
 use Rattle.back.proofs.Judging.{not_ended, ended_checked}
-use borrow.Author.Rules.{rules}
 use Rattle.back.proofs.judge.Goals as goal
 
 pub returns-then-not-ended : goal.returns-then-not-ended

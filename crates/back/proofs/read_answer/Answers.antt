@@ -1,6 +1,5 @@
 -- `back::read_answer` meets its contract: what the reader refuses is refused, and what it reads is settled. Assumes nothing.
 use Rattle.back.proofs.Judging.{file_ready, file_settled, file_stopped}
-use borrow.Author.Rules.{rules}
 use Rattle.back.proofs.read_answer.Goals as goal
 
 pub settle-requires : goal.settle-requires

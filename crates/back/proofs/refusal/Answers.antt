@@ -1,6 +1,5 @@
 -- `back::refusal` meets its contract: by what the answer to a refusal is. Assumes nothing.
 use Rattle.back.specs.Says.{back_of}
-use borrow.Author.Rules.{rules}
 use Rattle.back.proofs.refusal.Goals as goal
 
 pub returns : goal.returns

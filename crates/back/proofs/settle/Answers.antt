@@ -4,7 +4,6 @@ use Rattle.words.proofs.Tables.{table_cleared}
 use Rattle.back.specs.Says.{verdict}
 use Rattle.back.proofs.Judging.{passed_leaves, refused_leaves}
 use native.Mathlib.Omega.{arith}
-use borrow.Author.Rules.{rules}
 use Rattle.back.proofs.settle.Goals as goal
 
 pub clear_entries-requires : goal.clear_entries-requires

@@ -1,9 +1,7 @@
 -- `checks::check_job` meets its contract: 8, then 9 and 10, then 11 and 12. Assumes nothing.
 use mathlib.Core.Path.{ap, sym, ◌∙◌}
-use borrow.Author.Tests.{not-true, not-false}
 use Rattle.guard.specs.Says.{outcome}
 use Rattle.checks.proofs.Answering.{ready_given, ready_few, ready_formed, ready_typed, ready_scoped, ready_coded, rootless, unsound, settled}
-use borrow.Author.Rules.{rules}
 use Rattle.checks.proofs.check_job.Goals as goal
 
 pub returns-then-not-has_root : goal.returns-then-not-has_root

@@ -1,7 +1,6 @@
 -- `checks::check_vars_uses` meets its contract: 11, then 12. Assumes nothing.
 use mathlib.Core.Path.{◌∙◌}
 use Rattle.checks.proofs.Answering.{in_turn_lem}
-use borrow.Author.Rules.{rules}
 use Rattle.checks.proofs.check_vars_uses.Goals as goal
 
 pub returns : goal.returns

@@ -1,6 +1,5 @@
 -- `checks::first` meets its contract: the one, the other, or neither. Assumes nothing.
 use Rattle.checks.proofs.Answering.{first_one, first_other, first_none}
-use borrow.Author.Rules.{rules}
 use Rattle.checks.proofs.first.Goals as goal
 
 pub returns-in-At : goal.returns-in-At

@@ -4,7 +4,6 @@ use mathlib.Core.Path.{◌∙◌}
 use native.Mathlib.Omega.{arith}
 use Rattle.words.proofs.Entries.{entry_read}
 use Rattle.classes.proofs.Words.{plain_class, name_inside, name_class}
-use borrow.Author.Rules.{rules}
 use Rattle.classes.proofs.class_at.Goals as goal
 
 pub bounds-defs-wide : goal.bounds-defs-wide

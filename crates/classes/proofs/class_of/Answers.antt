@@ -1,7 +1,6 @@
 -- `classes::class_of` meets its contract: what stands in an appended entry stands before it.
 -- Assumes nothing.
 use Rattle.classes.proofs.Laws.{class_appended}
-use borrow.Author.Rules.{rules}
 use Rattle.classes.proofs.class_of.Goals as goal
 
 pub returns : goal.returns

@@ -2,11 +2,9 @@
 -- Assumes nothing.
 use mathlib.Core.Path.{◌∙◌}
 use native.Mathlib.Omega.{arith}
-use lib.ListN.{take, length-set}
-use Rattle.words.specs.Tables.{table_of}
+use lib.ListN.{length-set}
 use Rattle.words.proofs.Tables.{table_length}
-use Rattle.classes.proofs.Climbing.{Climbing, left_over, climbing_start, climbing_on, climbing_less, climbing_end}
-use borrow.Author.Rules.{rules}
+use Rattle.classes.proofs.Climbing.{climbing_start, climbing_on, climbing_less, climbing_end}
 use Rattle.classes.proofs.climb.Goals as goal
 
 pub overflow_cast-back : goal.overflow_cast-back

@@ -1,11 +1,8 @@
 -- `classes::climb` meets its contract. The invariant is where the climb has come to.
 -- Assumes nothing.
-use mathlib.Core.Path.{◌∙◌}
-use native.Mathlib.Omega.{arith}
-use lib.ListN.{take, length-set}
+use lib.ListN.{take}
 use Rattle.words.specs.Tables.{table_of}
-use Rattle.words.proofs.Tables.{table_length}
-use Rattle.classes.proofs.Climbing.{Climbing, left_over, climbing_start, climbing_on, climbing_less, climbing_end}
+use Rattle.classes.proofs.Climbing.{Climbing, left_over}
 use Rattle.classes.proofs.climb.Given as goal
 
 abbrev pub invariant-loop-classes : goal.invariant-loop-classes

@@ -2,7 +2,6 @@
 -- Assumes nothing.
 use Rattle.meaning.specs.Shapes.{allowing}
 use Rattle.classes.specs.Classes.{code_of}
-use borrow.Author.Rules.{rules}
 use Rattle.classes.proofs.code.Goals as goal
 
 pub returns-then-many : goal.returns-then-many

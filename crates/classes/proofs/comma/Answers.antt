@@ -2,7 +2,6 @@
 -- Assumes nothing.
 use mathlib.Core.Path.{◌∙◌}
 use Rattle.meaning.specs.Shapes.{comma}
-use borrow.Author.Rules.{rules}
 use Rattle.classes.proofs.comma.Goals as goal
 
 pub returns : goal.returns

@@ -1,7 +1,6 @@
 -- `classes::either` meets its contract.
 -- Assumes nothing.
 use mathlib.Core.Path.{◌∙◌}
-use borrow.Author.Rules.{rules}
 use Rattle.classes.proofs.either.Goals as goal
 
 pub returns : goal.returns

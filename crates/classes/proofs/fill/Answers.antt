@@ -1,14 +1,10 @@
 -- `classes::fill` meets its contract: after so many entries those have their classes.
 -- Assumes nothing.
-use mathlib.Core.Path.{refl, sym, ◌≡◌, ◌∙◌}
-use Prim.Native.Nat.{◌-◌}
+use mathlib.Core.Path.{refl, sym, ◌∙◌}
 use native.Mathlib.Omega.{arith}
-use lib.ListN.{length, take}
 use lib.Seq.{length-take-le}
-use Rattle.words.specs.Tables.{table_of}
 use Rattle.words.proofs.Tables.{table_length}
-use Rattle.classes.proofs.Climbing.{Filling, filling_start, filling_on, filling_end, blank_long}
-use borrow.Author.Rules.{rules}
+use Rattle.classes.proofs.Climbing.{filling_start, filling_on, filling_end, blank_long}
 use Rattle.classes.proofs.fill.Goals as goal
 
 pub slice_bounds-clear-end : goal.slice_bounds-clear-end

@@ -1,13 +1,10 @@
 -- `classes::fill` meets its contract: after so many entries those have their classes.
 -- Assumes nothing.
-use mathlib.Core.Path.{refl, sym, ◌≡◌, ◌∙◌}
+use mathlib.Core.Path.{◌≡◌}
 use Prim.Native.Nat.{◌-◌}
-use native.Mathlib.Omega.{arith}
 use lib.ListN.{length, take}
-use lib.Seq.{length-take-le}
 use Rattle.words.specs.Tables.{table_of}
-use Rattle.words.proofs.Tables.{table_length}
-use Rattle.classes.proofs.Climbing.{Filling, filling_start, filling_on, filling_end, blank_long}
+use Rattle.classes.proofs.Climbing.{Filling}
 use Rattle.classes.proofs.fill.Given as goal
 
 abbrev pub invariant-loop-e : goal.invariant-loop-e

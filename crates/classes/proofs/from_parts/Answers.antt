@@ -2,7 +2,6 @@
 -- Assumes nothing.
 use mathlib.Core.Path.{◌∙◌}
 use Rattle.classes.proofs.Laws.{from_string, from_element, from_pair, from_union, from_star, from_plus, from_opt, from_none}
-use borrow.Author.Rules.{rules}
 use Rattle.classes.proofs.from_parts.Goals as goal
 
 pub returns-in-2 : goal.returns-in-2

@@ -1,6 +1,5 @@
 -- `classes::lacks` meets its contract. Assumes nothing.
 use Rattle.classes.proofs.Lacking.{lacks_first, lacks_later, lacks_none}
-use borrow.Author.Rules.{rules}
 use Rattle.classes.proofs.lacks.Goals as goal
 
 pub returns-then-part-eq0 : goal.returns-then-part-eq0

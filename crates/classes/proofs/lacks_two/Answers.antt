@@ -1,6 +1,5 @@
 -- `classes::lacks_two` meets its contract. Assumes nothing.
 use Rattle.classes.proofs.Lacking.{lacks_first, lacks_later}
-use borrow.Author.Rules.{rules}
 use Rattle.classes.proofs.lacks_two.Goals as goal
 
 pub returns-then-part-eq0 : goal.returns-then-part-eq0

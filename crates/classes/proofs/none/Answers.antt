@@ -3,7 +3,6 @@
 use borrow.Author.Tests.{eq-eqb, ne_eqb}
 use Rattle.classes.specs.Classes.{class_of}
 use Rattle.classes.proofs.Laws.{none_allowing}
-use borrow.Author.Rules.{rules}
 use Rattle.classes.proofs.none.Goals as goal
 
 pub returns-then-c-eq2 : goal.returns-then-c-eq2

@@ -2,7 +2,6 @@
 -- Assumes nothing.
 use native.Mathlib.Omega.{arith}
 use lib.ListN.{get_or-eq_default}
-use borrow.Author.Rules.{rules}
 use Rattle.classes.proofs.part.Goals as goal
 
 pub returns-then-i-classes : goal.returns-then-i-classes

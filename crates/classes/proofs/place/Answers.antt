@@ -3,7 +3,6 @@ use native.Mathlib.Omega.{arith}
 use Rattle.words.proofs.Entries.{entry_read}
 use Rattle.classes.proofs.Words.{plain_class, parts_before}
 use Rattle.classes.proofs.Climbing.{climbed_once}
-use borrow.Author.Rules.{rules}
 use Rattle.classes.proofs.place.Goals as goal
 
 pub returns : goal.returns

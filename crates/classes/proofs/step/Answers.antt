@@ -4,7 +4,6 @@ use Rattle.words.proofs.Tables.{table_length}
 use Rattle.words.proofs.Entries.{entry_read}
 use Rattle.classes.proofs.Words.{name_inside}
 use Rattle.classes.proofs.Lacking.{part_low, stepped_down, stepped_back}
-use borrow.Author.Rules.{rules}
 use Rattle.classes.proofs.step.Goals as goal
 
 pub waits-wait-requires : goal.waits-wait-requires

@@ -2,7 +2,6 @@
 use mathlib.Core.Path.{◌∙◌}
 use native.Mathlib.Omega.{arith}
 use Rattle.classes.proofs.Lacking.{lacks_by, lacks_none, steps_name, steps_two, steps_one, steps_below, steps_above}
-use borrow.Author.Rules.{rules}
 use Rattle.classes.proofs.waits.Goals as goal
 
 pub bounds-defs-wide : goal.bounds-defs-wide

@@ -2,7 +2,6 @@
 -- Assumes nothing.
 use Rattle.conditions.proofs.Beginning.{next_inside, begins_true, begins_false, begins_equal, begins_empty, begins_not, begins_or, begins_none}
 use native.Mathlib.Omega.{arith}
-use borrow.Author.Rules.{rules}
 use Rattle.conditions.proofs.begin.Goals as goal
 
 pub token_at-t-requires : goal.token_at-t-requires

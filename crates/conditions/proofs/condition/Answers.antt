@@ -2,7 +2,6 @@
 -- Assumes nothing.
 use Rattle.conditions.proofs.Going.{first_moves, conditions}
 use native.Mathlib.Omega.{arith}
-use borrow.Author.Rules.{rules}
 use Rattle.conditions.proofs.condition.Goals as goal
 
 pub begin-first-requires : goal.begin-first-requires

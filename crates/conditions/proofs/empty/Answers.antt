@@ -1,8 +1,6 @@
 -- `conditions::empty` meets its contract.
 -- Assumes nothing.
 use Rattle.conditions.proofs.Leaves.{empty_on, empty_not}
-use native.Mathlib.Omega.{arith}
-use borrow.Author.Rules.{rules}
 use Rattle.conditions.proofs.empty.Goals as goal
 
 pub made-requires : goal.made-requires

@@ -3,8 +3,6 @@
 use Rattle.meaning.specs.Texts.{variable_at}
 use Rattle.conditions.specs.Frames.{equal_to, equal_at}
 use Rattle.conditions.proofs.Acting.{got_inside, leaf_got, leaf_not_got}
-use native.Mathlib.Omega.{arith}
-use borrow.Author.Rules.{rules}
 use Rattle.conditions.proofs.equal.Goals as goal
 
 pub equal_to-requires : goal.equal_to-requires

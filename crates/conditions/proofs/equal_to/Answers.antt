@@ -4,7 +4,6 @@ use Rattle.meaning.specs.Texts.{expect}
 use Rattle.conditions.specs.Frames.{equal_with, equal_to}
 use Rattle.conditions.proofs.Acting.{went_inside, leaf_went, leaf_not_went, leaf_lower}
 use native.Mathlib.Omega.{arith}
-use borrow.Author.Rules.{rules}
 use Rattle.conditions.proofs.equal_to.Goals as goal
 
 pub expect-went-requires : goal.expect-went-requires

@@ -1,8 +1,6 @@
 -- `conditions::equal_with` meets its contract.
 -- Assumes nothing.
 use Rattle.conditions.proofs.Leaves.{equal_on, equal_not}
-use native.Mathlib.Omega.{arith}
-use borrow.Author.Rules.{rules}
 use Rattle.conditions.proofs.equal_with.Goals as goal
 
 pub made-requires : goal.made-requires

@@ -1,8 +1,6 @@
 -- `conditions::opened` meets its contract.
 -- Assumes nothing.
 use Rattle.conditions.specs.Frames.{full, room}
-use native.Mathlib.Omega.{arith}
-use borrow.Author.Rules.{rules}
 use Rattle.conditions.proofs.opened.Goals as goal
 
 pub returns-then-deep-lt100 : goal.returns-then-deep-lt100

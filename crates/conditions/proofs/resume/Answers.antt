@@ -3,7 +3,6 @@
 use mathlib.Core.Path.{refl}
 use Rattle.conditions.proofs.Resuming.{resumes_not, resumes_turn, resumes_close}
 use native.Mathlib.Omega.{arith}
-use borrow.Author.Rules.{rules}
 use Rattle.conditions.proofs.resume.Goals as goal
 
 pub overflow_sub-nodes : goal.overflow_sub-nodes

@@ -1,10 +1,8 @@
 -- `conditions::run` meets its contract: what is left to do with the act that the loop has come to is the whole (`Going`).
 -- Assumes nothing.
 use mathlib.Core.Path.{refl}
-use lib.ListN.{length}
-use Rattle.conditions.proofs.Going.{Going, left, going_start, going_by, going_refused, going_closed, going_resumed, going_begun, resumed_less, begun_less}
+use Rattle.conditions.proofs.Going.{going_start, going_by, going_refused, going_closed, going_resumed, going_begun, resumed_less, begun_less}
 use native.Mathlib.Omega.{arith}
-use borrow.Author.Rules.{rules}
 use Rattle.conditions.proofs.run.Goals as goal
 
 pub loop-act-init : goal.loop-act-init

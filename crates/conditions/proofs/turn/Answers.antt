@@ -3,7 +3,6 @@
 use mathlib.Core.Path.{refl}
 use Rattle.conditions.proofs.Resuming.{turns_on, turns_not}
 use native.Mathlib.Omega.{arith}
-use borrow.Author.Rules.{rules}
 use Rattle.conditions.proofs.turn.Goals as goal
 
 pub expect-went-requires : goal.expect-went-requires

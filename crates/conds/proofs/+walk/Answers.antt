@@ -1,8 +1,6 @@
 -- `conds::walk` meets its contract: what is left to judge at the node that the loop has come to is all that there was (`Going`); nodes that are named are
 -- lower, which is the measure of the loop and of the calls. Assumes nothing.
-use Prim.Native.Nat.{ℕ, ◌<◌}
-use Rattle.conds.proofs.Going.{Going, going_none, turn_inside, true_done, false_done, equal_in, equal_done, empty_in, empty_done, not_falls, not_going, left_in, or_done, or_going, right_falls}
-use borrow.Author.Rules.{rules}
+use Rattle.conds.proofs.Going.{going_none, turn_inside, true_done, false_done, equal_in, equal_done, empty_in, empty_done, not_falls, not_going, left_in, or_done, or_going, right_falls}
 use Rattle.conds.proofs.+walk.Goals as goal
 
 pub loop-v-init : goal.loop-v-init

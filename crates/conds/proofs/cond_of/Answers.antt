@@ -4,7 +4,6 @@ use Rattle.meaning.specs.Base.{find}
 use Rattle.meaning.specs.Kinds
 use Rattle.meaning.specs.Queries.{expand_cond}
 use Rattle.conds.proofs.Nodes.{says_kind, says_rest}
-use borrow.Author.Rules.{rules}
 use Rattle.conds.proofs.cond_of.Goals as goal
 
 pub returns-in-48 : goal.returns-in-48

@@ -1,5 +1,4 @@
 -- `conds::entry_of` meets its contract: a refusal for no variable, else its entry. Assumes nothing.
-use borrow.Author.Rules.{rules}
 use Rattle.conds.proofs.entry_of.Goals as goal
 
 pub returns-in-Missing : goal.returns-in-Missing

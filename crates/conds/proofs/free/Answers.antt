@@ -1,5 +1,4 @@
 -- `conds::free` meets its contract: a refusal for any variable. Assumes nothing.
-use borrow.Author.Rules.{rules}
 use Rattle.conds.proofs.free.Goals as goal
 
 pub returns-in-Missing : goal.returns-in-Missing

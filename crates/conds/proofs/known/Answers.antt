@@ -1,6 +1,5 @@
 -- `conds::known` meets its contract: the variable's word is 0 if it is not in scope, and only then. Assumes nothing.
 use Rattle.conds.proofs.Looking.{known_none, known_some}
-use borrow.Author.Rules.{rules}
 use Rattle.conds.proofs.known.Goals as goal
 
 pub returns-then-slots-at-eq0 : goal.returns-then-slots-at-eq0

@@ -1,6 +1,5 @@
 -- `conds::known_both` meets its contract: the first variable's refusal, or what the second one is. Assumes nothing.
 use Rattle.conds.proofs.Looking.{in_scope, judged_first, judged_second, judged_two}
-use borrow.Author.Rules.{rules}
 use Rattle.conds.proofs.known_both.Goals as goal
 
 pub returns-in_default : goal.returns-in_default

@@ -1,6 +1,5 @@
 -- `conds::read_cond` meets its contract: the words that are read are those of the node. Assumes nothing.
 use Rattle.conds.proofs.Nodes.{says_read}
-use borrow.Author.Rules.{rules}
 use Rattle.conds.proofs.read_cond.Goals as goal
 
 pub returns : goal.returns

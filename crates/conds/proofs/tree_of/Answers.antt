@@ -1,5 +1,4 @@
 -- `conds::tree_of` meets its contract: a refusal for no variable and for a forest variable, else its entry. Assumes nothing.
-use borrow.Author.Rules.{rules}
 use Rattle.conds.proofs.tree_of.Goals as goal
 
 pub returns-in-Missing : goal.returns-in-Missing

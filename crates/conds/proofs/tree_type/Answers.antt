@@ -4,7 +4,6 @@ use Rattle.meaning.specs.Base.{◌>>=◌, given}
 use Rattle.meaning.specs.Typing.{only_tree}
 use Rattle.meaning.specs.Records as Records
 use Rattle.conds.proofs.Looking.{looked}
-use borrow.Author.Rules.{rules}
 use Rattle.conds.proofs.tree_type.Goals as goal
 
 pub returns : goal.returns

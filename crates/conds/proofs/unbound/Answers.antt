@@ -4,7 +4,6 @@ use mathlib.Core.Option.{Option}
 use Rattle.meaning.specs.Base.{require, is_some}
 use Rattle.meaning.specs.Records as Records
 use Rattle.conds.proofs.Looking.{looked}
-use borrow.Author.Rules.{rules}
 use Rattle.conds.proofs.unbound.Goals as goal
 
 pub returns : goal.returns

@@ -4,7 +4,6 @@ use Rattle.meaning.specs.Base.{ok, ◌>>=◌, given}
 use Rattle.meaning.specs.Records.{type_in}
 use Rattle.meaning.specs.Records as Records
 use Rattle.conds.proofs.Looking.{looked}
-use borrow.Author.Rules.{rules}
 use Rattle.conds.proofs.variable.Goals as goal
 
 pub returns : goal.returns

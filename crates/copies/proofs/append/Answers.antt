@@ -4,7 +4,6 @@ use Rattle.copies.proofs.Filling.{behind_blank, behind_done, behind_full}
 use Rattle.copies.proofs.Lent.{blank_self}
 use Rattle.copies.specs.Fills.{done}
 use native.Mathlib.Omega.{arith}
-use borrow.Author.Rules.{rules}
 use Rattle.copies.proofs.append.Goals as goal
 
 pub put-made-requires : goal.put-made-requires

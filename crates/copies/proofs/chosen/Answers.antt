@@ -3,11 +3,10 @@
 use Rattle.spans.proofs.Parts.{part_length}
 use Rattle.spans.specs.Shows.{part}
 use Rattle.copies.proofs.Filling.{filled_length, filled_self}
-use Rattle.copies.proofs.Choosing.{Choosing, choosing_start, choosing_end, turn_inside, turn_words, turn_full, turn_next, stride_some, stride_inside}
+use Rattle.copies.proofs.Choosing.{choosing_start, choosing_end, turn_inside, turn_words, turn_full, turn_next, stride_some, stride_inside}
 use mathlib.Core.Path.{ap, ◌∙◌}
-use Prim.Native.Nat.{ℕ, ◌+◌, ◌-◌}
+use Prim.Native.Nat.{ℕ, ◌+◌}
 use native.Mathlib.Omega.{arith}
-use borrow.Author.Rules.{rules}
 use Rattle.copies.proofs.chosen.Goals as goal
 
 pub overflow_add-j : goal.overflow_add-j

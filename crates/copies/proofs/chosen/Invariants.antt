@@ -1,12 +1,7 @@
 -- `copies::chosen` meets its contract.
 -- Assumes nothing.
-use Rattle.spans.proofs.Parts.{part_length}
-use Rattle.spans.specs.Shows.{part}
-use Rattle.copies.proofs.Filling.{filled_length, filled_self}
-use Rattle.copies.proofs.Choosing.{Choosing, choosing_start, choosing_end, turn_inside, turn_words, turn_full, turn_next, stride_some, stride_inside}
-use mathlib.Core.Path.{ap, ◌∙◌}
-use Prim.Native.Nat.{ℕ, ◌+◌, ◌-◌}
-use native.Mathlib.Omega.{arith}
+use Rattle.copies.proofs.Choosing.{Choosing}
+use Prim.Native.Nat.{◌+◌, ◌-◌}
 use Rattle.copies.proofs.chosen.Given as goal
 
 abbrev pub invariant-loop-j : goal.invariant-loop-j

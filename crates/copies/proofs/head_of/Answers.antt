@@ -2,7 +2,6 @@
 -- Assumes nothing.
 use Rattle.copies.specs.Fills.{head_in}
 use borrow.Author.Tests.{eq-eqb, ne_eqb}
-use borrow.Author.Rules.{rules}
 use Rattle.copies.proofs.head_of.Goals as goal
 
 pub returns-then-kind-eq64 : goal.returns-then-kind-eq64

@@ -1,12 +1,10 @@
 -- `copies::inner` meets its contract.
 -- Assumes nothing.
 use Rattle.copies.proofs.Filling.{filled_length, filled_self}
-use Rattle.copies.proofs.Gathering.{Gathering, gathering_start, gathering_end, inner_ends, inner_stretch, inner_full, inner_next}
-use lib.ListN.{length}
+use Rattle.copies.proofs.Gathering.{gathering_start, gathering_end, inner_ends, inner_stretch, inner_full, inner_next}
 use mathlib.Core.Path.{ap, ◌∙◌}
-use Prim.Native.Nat.{ℕ, ◌+◌, ◌-◌}
+use Prim.Native.Nat.{ℕ, ◌+◌}
 use native.Mathlib.Omega.{arith}
-use borrow.Author.Rules.{rules}
 use Rattle.copies.proofs.inner.Goals as goal
 
 pub loop-j-init : goal.loop-j-init

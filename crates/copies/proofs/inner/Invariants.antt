@@ -1,11 +1,8 @@
 -- `copies::inner` meets its contract.
 -- Assumes nothing.
-use Rattle.copies.proofs.Filling.{filled_length, filled_self}
-use Rattle.copies.proofs.Gathering.{Gathering, gathering_start, gathering_end, inner_ends, inner_stretch, inner_full, inner_next}
+use Rattle.copies.proofs.Gathering.{Gathering}
 use lib.ListN.{length}
-use mathlib.Core.Path.{ap, ◌∙◌}
-use Prim.Native.Nat.{ℕ, ◌+◌, ◌-◌}
-use native.Mathlib.Omega.{arith}
+use Prim.Native.Nat.{◌-◌}
 use Rattle.copies.proofs.inner.Given as goal
 
 abbrev pub invariant-loop-j : goal.invariant-loop-j

@@ -6,7 +6,6 @@ use Rattle.meaning.proofs.Forests.{length_words}
 use lib.ListN.{length}
 use mathlib.Core.Path.{refl, ap}
 use native.Mathlib.Omega.{arith}
-use borrow.Author.Rules.{rules}
 use Rattle.copies.proofs.place.Goals as goal
 
 pub returns-then-rest-forest : goal.returns-then-rest-forest

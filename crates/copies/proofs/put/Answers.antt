@@ -3,7 +3,6 @@
 use Rattle.copies.proofs.Firsts.{select_not, select_so}
 use Rattle.copies.proofs.Filling.{filled_none, copied_as}
 use Rattle.copies.specs.Fills.{first, done}
-use borrow.Author.Rules.{rules}
 use mathlib.Core.Path.{ap}
 use mathlib.Core.Bool.{not}
 use Rattle.copies.proofs.put.Goals as goal

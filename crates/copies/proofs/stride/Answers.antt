@@ -1,7 +1,6 @@
 -- `copies::stride` meets its contract.
 -- Assumes nothing.
 use Rattle.copies.specs.Fills.{stride_of}
-use borrow.Author.Rules.{rules}
 use Rattle.copies.proofs.stride.Goals as goal
 
 pub returns-then-deep : goal.returns-then-deep

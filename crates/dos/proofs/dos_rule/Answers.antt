@@ -2,7 +2,6 @@
 use native.Mathlib.Omega.{arith}
 use Rattle.dos.proofs.Uniting.{next_low}
 use Rattle.dos.proofs.Rule.{dos_none, dos_some}
-use borrow.Author.Rules.{rules}
 use Rattle.dos.proofs.dos_rule.Goals as goal
 
 pub returns-then-x-count : goal.returns-then-x-count

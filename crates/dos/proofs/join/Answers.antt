@@ -1,7 +1,6 @@
 -- `dos::join` meets its contract: the unions, then their star. Assumes nothing.
 use native.Mathlib.Omega.{arith}
 use Rattle.dos.proofs.Rule.{left_few, star_full, star_done}
-use borrow.Author.Rules.{rules}
 use Rattle.dos.proofs.join.Goals as goal
 
 pub returns-in_default : goal.returns-in_default

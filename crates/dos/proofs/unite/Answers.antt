@@ -1,15 +1,8 @@
 -- `dos::unite` meets its contract: the unions left to make from here are the whole (`Uniting`). Assumes nothing.
 use mathlib.Core.Path.{◌∙◌}
-use Prim.Native.Nat.{◌-◌}
 use native.Mathlib.Omega.{arith}
-use Rattle.meaning.specs.Types.{Defs}
-use Rattle.words.specs.Tables.{table_of}
-use Rattle.reach.specs.Marks.{marks_of}
-use Rattle.reach.specs.Atoms.{picked}
 use Rattle.reach.proofs.Atoms.{next_from}
-use Rattle.grow.specs.Grow.{Ready}
-use Rattle.dos.proofs.Uniting.{next_low, Uniting, uniting_none, uniting_ready, uniting_inside, uniting_words, uniting_all, uniting_full, uniting_more, uniting_next}
-use borrow.Author.Rules.{rules}
+use Rattle.dos.proofs.Uniting.{next_low, uniting_none, uniting_ready, uniting_inside, uniting_words, uniting_all, uniting_full, uniting_more, uniting_next}
 use Rattle.dos.proofs.unite.Goals as goal
 
 pub overflow_add-i : goal.overflow_add-i

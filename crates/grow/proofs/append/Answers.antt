@@ -5,7 +5,6 @@ use native.Mathlib.Omega.{arith}
 use lib.ListN.{length}
 use Rattle.meaning.specs.Base.{type_capacity}
 use Rattle.grow.proofs.Growth.{class_new, grown_left, full_left}
-use borrow.Author.Rules.{rules}
 use Rattle.grow.proofs.append.Goals as goal
 
 pub returns-then-count-room : goal.returns-then-count-room

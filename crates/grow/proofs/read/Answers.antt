@@ -4,7 +4,6 @@ use Rattle.meaning.specs.Types as Types
 use Rattle.meaning.proofs.Lists.{at_is}
 use Rattle.words.proofs.Tables.{table_length}
 use Rattle.words.proofs.Entries.{entry_read}
-use borrow.Author.Rules.{rules}
 use Rattle.grow.proofs.read.Goals as goal
 
 pub returns : goal.returns

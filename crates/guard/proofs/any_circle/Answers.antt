@@ -1,6 +1,5 @@
 -- `guard::any_circle` meets its contract: no definitions, few entries, or many. Assumes nothing.
 use Rattle.guard.proofs.Answering.{circle_none}
-use borrow.Author.Rules.{rules}
 use Rattle.guard.proofs.any_circle.Goals as goal
 
 pub returns-then-used-eq0 : goal.returns-then-used-eq0

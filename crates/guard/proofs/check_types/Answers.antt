@@ -1,6 +1,5 @@
 -- `guard::check_types` meets its contract: 9 and 10 together are `check_types`. Assumes nothing.
 use Rattle.guard.proofs.Answering.{checked_nine, checked_ten, checked_sound}
-use borrow.Author.Rules.{rules}
 use Rattle.guard.proofs.check_types.Goals as goal
 
 pub returns-in-At : goal.returns-in-At

@@ -1,6 +1,5 @@
 -- `guard::circle_of_few` meets its contract: the arrays have room. Assumes nothing.
 use Rattle.guard.proofs.Answering.{given_few}
-use borrow.Author.Rules.{rules}
 use Rattle.guard.proofs.circle_of_few.Goals as goal
 
 pub circle-requires : goal.circle-requires

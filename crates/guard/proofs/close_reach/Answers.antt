@@ -1,7 +1,5 @@
 -- `guard::close_reach` meets its contract: closed through the definitions below k (`Closing`). Assumes nothing.
-use Prim.Native.Nat.{◌-◌}
-use Rattle.guard.proofs.Closing.{Closing, closing_none, closing_more, closing_all}
-use borrow.Author.Rules.{rules}
+use Rattle.guard.proofs.Closing.{closing_none, closing_more, closing_all}
 use Rattle.guard.proofs.close_reach.Goals as goal
 
 pub loop-k-init : goal.loop-k-init

@@ -1,6 +1,6 @@
 -- `guard::close_reach` meets its contract: closed through the definitions below k (`Closing`). Assumes nothing.
 use Prim.Native.Nat.{◌-◌}
-use Rattle.guard.proofs.Closing.{Closing, closing_none, closing_more, closing_all}
+use Rattle.guard.proofs.Closing.{Closing}
 use Rattle.guard.proofs.close_reach.Given as goal
 
 abbrev pub invariant-loop-k : goal.invariant-loop-k

@@ -1,11 +1,8 @@
 -- `guard::fill_masks` meets its contract: the sets below e are their entries' (`Filling`). Assumes nothing.
 use mathlib.Core.Path.{sym}
-use Prim.Native.Nat.{◌-◌}
-use Rattle.words.specs.Tables.{table_of}
 use Rattle.words.proofs.Tables.{table_length}
 use Rattle.words.proofs.Entries.{entry_read}
-use Rattle.guard.proofs.Filling.{Filling, filling_none, filling_low, filling_more, filling_all}
-use borrow.Author.Rules.{rules}
+use Rattle.guard.proofs.Filling.{filling_none, filling_low, filling_more, filling_all}
 use Rattle.guard.proofs.fill_masks.Goals as goal
 
 pub loop-e-init : goal.loop-e-init

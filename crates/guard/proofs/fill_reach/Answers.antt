@@ -1,8 +1,6 @@
 -- `guard::fill_reach` meets its contract: the sets below d are those of their entries (`Beginning`). Assumes nothing.
-use Prim.Native.Nat.{◌-◌}
 use native.Mathlib.Omega.{arith}
-use Rattle.guard.proofs.Beginning.{def_low, Beginning, beginning_none, beginning_more, beginning_all}
-use borrow.Author.Rules.{rules}
+use Rattle.guard.proofs.Beginning.{def_low, beginning_none, beginning_more, beginning_all}
 use Rattle.guard.proofs.fill_reach.Goals as goal
 
 pub loop-d-init : goal.loop-d-init

@@ -1,7 +1,6 @@
 -- `guard::has` meets its contract: a shift and the last digit are the bit. Assumes nothing.
 use mathlib.Core.Path.{sym}
 use Rattle.guard.proofs.Bits.{bit_shift}
-use borrow.Author.Rules.{rules}
 use Rattle.guard.proofs.has.Goals as goal
 
 pub returns : goal.returns

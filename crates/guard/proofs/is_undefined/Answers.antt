@@ -1,6 +1,5 @@
 -- `guard::is_undefined` meets its contract: one way for a name, one for the others. Assumes nothing.
 use Rattle.guard.proofs.Entries.{undefined_other, undefined_name_lem}
-use borrow.Author.Rules.{rules}
 use Rattle.guard.proofs.is_undefined.Goals as goal
 
 pub returns-then-kind-ne9 : goal.returns-then-kind-ne9

@@ -1,7 +1,5 @@
 -- `guard::join_through` meets its contract: the sets below d are joined, the others as they were (`Joining`). Assumes nothing.
-use Prim.Native.Nat.{◌-◌}
-use Rattle.guard.proofs.Closing.{Joining, joining_none, joining_more, joining_all}
-use borrow.Author.Rules.{rules}
+use Rattle.guard.proofs.Closing.{joining_none, joining_more, joining_all}
 use Rattle.guard.proofs.join_through.Goals as goal
 
 pub loop-d-init : goal.loop-d-init

@@ -1,6 +1,6 @@
 -- `guard::join_through` meets its contract: the sets below d are joined, the others as they were (`Joining`). Assumes nothing.
 use Prim.Native.Nat.{◌-◌}
-use Rattle.guard.proofs.Closing.{Joining, joining_none, joining_more, joining_all}
+use Rattle.guard.proofs.Closing.{Joining}
 use Rattle.guard.proofs.join_through.Given as goal
 
 abbrev pub invariant-loop-d : goal.invariant-loop-d

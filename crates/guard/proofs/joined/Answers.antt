@@ -1,7 +1,6 @@
 -- `guard::joined` meets its contract: one way for each answer of `has`. Assumes nothing.
 use mathlib.Core.Path.{sym, ◌∙◌}
 use Rattle.guard.proofs.Closing.{merged_both, merged_one}
-use borrow.Author.Rules.{rules}
 use Rattle.guard.proofs.joined.Goals as goal
 
 pub returns-then-has : goal.returns-then-has

@@ -1,9 +1,6 @@
 -- `guard::lowest_circle` meets its contract: the lowest from here on is the lowest (`Seeking`). Assumes nothing.
 use mathlib.Core.Path.{sym, ◌∙◌}
-use Prim.Native.Nat.{◌-◌}
-use Rattle.meaning.proofs.Searches.{Seeking, seeking_none, seeking_more, seeking_here, seeking_all}
-use Rattle.guard.specs.Sets.{bit_at}
-use borrow.Author.Rules.{rules}
+use Rattle.meaning.proofs.Searches.{seeking_none, seeking_more, seeking_here, seeking_all}
 use Rattle.guard.proofs.lowest_circle.Goals as goal
 
 pub loop-d-init : goal.loop-d-init

@@ -1,9 +1,7 @@
 -- `guard::undefined_name` meets its contract: the lowest from here on is the lowest (`Nine`). Assumes nothing.
 use mathlib.Core.Path.{sym}
-use Prim.Native.Nat.{◌-◌}
 use Rattle.words.proofs.Entries.{entry_read}
-use Rattle.guard.proofs.Entries.{Nine, nine_none, nine_more, nine_here, nine_all}
-use borrow.Author.Rules.{rules}
+use Rattle.guard.proofs.Entries.{nine_none, nine_more, nine_here, nine_all}
 use Rattle.guard.proofs.undefined_name.Goals as goal
 
 pub loop-i-init : goal.loop-i-init

@@ -1,8 +1,6 @@
 -- `guard::undefined_name` meets its contract: the lowest from here on is the lowest (`Nine`). Assumes nothing.
-use mathlib.Core.Path.{sym}
 use Prim.Native.Nat.{◌-◌}
-use Rattle.words.proofs.Entries.{entry_read}
-use Rattle.guard.proofs.Entries.{Nine, nine_none, nine_more, nine_here, nine_all}
+use Rattle.guard.proofs.Entries.{Nine}
 use Rattle.guard.proofs.undefined_name.Given as goal
 
 abbrev pub invariant-loop-i : goal.invariant-loop-i

@@ -4,7 +4,6 @@ use mathlib.Core.Path.{refl}
 use Rattle.items.proofs.Items.{token_on}
 use Rattle.items.proofs.Begins.{begins_element, begins_variable, begins_text, begins_for, begins_let, begins_when, begins_group, begins_not}
 use native.Mathlib.Omega.{arith}
-use borrow.Author.Rules.{rules}
 use Rattle.items.proofs.begin.Goals as goal
 
 pub returns-then-kind-eq2 : goal.returns-then-kind-eq2

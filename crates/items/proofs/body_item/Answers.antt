@@ -1,8 +1,6 @@
 -- `items::body_item` meets its contract.
 -- Assumes nothing.
 use Rattle.items.proofs.Guards.{guard_not, guard_opens}
-use native.Mathlib.Omega.{arith}
-use borrow.Author.Rules.{rules}
 use Rattle.items.proofs.body_item.Goals as goal
 
 pub returns-in-Refused : goal.returns-in-Refused

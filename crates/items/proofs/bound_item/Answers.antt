@@ -2,8 +2,6 @@
 -- Assumes nothing.
 use Rattle.items.proofs.Outs.{got_on}
 use Rattle.items.proofs.Openings.{bound_deep, bound_not, bound_on}
-use native.Mathlib.Omega.{arith}
-use borrow.Author.Rules.{rules}
 use Rattle.items.proofs.bound_item.Goals as goal
 
 pub returns-then-deep-ge100 : goal.returns-then-deep-ge100

@@ -2,8 +2,6 @@
 -- Assumes nothing.
 use Rattle.items.proofs.Outs.{got_on}
 use Rattle.items.proofs.Openings.{element_on, element_not}
-use native.Mathlib.Omega.{arith}
-use borrow.Author.Rules.{rules}
 use Rattle.items.proofs.element_item.Goals as goal
 
 pub inside_item-requires : goal.inside_item-requires

@@ -1,9 +1,7 @@
 -- `items::go` meets its contract: by the kind of the frame.
 -- Assumes nothing.
-use mathlib.Core.Path.{sym, subst}
 use Rattle.items.proofs.Framed.{second_done, for_done, let_done, when_done, goes_as}
 use native.Mathlib.Omega.{arith}
-use borrow.Author.Rules.{rules}
 use Rattle.items.proofs.go.Goals as goal
 
 pub returns-then-kind-eq1 : goal.returns-then-kind-eq1

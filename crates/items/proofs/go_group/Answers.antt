@@ -1,8 +1,6 @@
 -- `items::go_group` meets its contract.
 -- Assumes nothing.
 use Rattle.items.proofs.Framed.{group_done, group_stops}
-use native.Mathlib.Omega.{arith}
-use borrow.Author.Rules.{rules}
 use Rattle.items.proofs.go_group.Goals as goal
 
 pub returns-in-Refused : goal.returns-in-Refused

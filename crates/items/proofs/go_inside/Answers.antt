@@ -1,8 +1,6 @@
 -- `items::go_inside` meets its contract.
 -- Assumes nothing.
 use Rattle.items.proofs.Framed.{inside_done, inside_stops}
-use native.Mathlib.Omega.{arith}
-use borrow.Author.Rules.{rules}
 use Rattle.items.proofs.go_inside.Goals as goal
 
 pub returns-in-Refused : goal.returns-in-Refused

@@ -1,8 +1,6 @@
 -- `items::go_source` meets its contract.
 -- Assumes nothing.
 use Rattle.items.proofs.Framed.{source_more, source_stops}
-use native.Mathlib.Omega.{arith}
-use borrow.Author.Rules.{rules}
 use Rattle.items.proofs.go_source.Goals as goal
 
 pub returns-in-Refused : goal.returns-in-Refused

@@ -1,8 +1,6 @@
 -- `items::go_tail` meets its contract.
 -- Assumes nothing.
 use Rattle.items.proofs.Framed.{tail_done, tail_more, tail_same}
-use native.Mathlib.Omega.{arith}
-use borrow.Author.Rules.{rules}
 use Rattle.items.proofs.go_tail.Goals as goal
 
 pub returns-then-kind_of-ne19 : goal.returns-then-kind_of-ne19

@@ -1,8 +1,6 @@
 -- `items::group_item` meets its contract.
 -- Assumes nothing.
 use Rattle.items.proofs.Openings.{group_deep, group_none, group_opens}
-use native.Mathlib.Omega.{arith}
-use borrow.Author.Rules.{rules}
 use Rattle.items.proofs.group_item.Goals as goal
 
 pub returns-then-deep-ge100 : goal.returns-then-deep-ge100

@@ -1,8 +1,6 @@
 -- `items::inside_item` meets its contract.
 -- Assumes nothing.
 use Rattle.items.proofs.Openings.{label_not, label_deep, label_opens}
-use native.Mathlib.Omega.{arith}
-use borrow.Author.Rules.{rules}
 use Rattle.items.proofs.inside_item.Goals as goal
 
 pub returns-then-kind_of-ne17 : goal.returns-then-kind_of-ne17

@@ -1,8 +1,6 @@
 -- `items::sign_item` meets its contract.
 -- Assumes nothing.
 use Rattle.items.proofs.Openings.{sign_some, sign_not, sign_opens}
-use native.Mathlib.Omega.{arith}
-use borrow.Author.Rules.{rules}
 use Rattle.items.proofs.sign_item.Goals as goal
 
 pub expect-requires : goal.expect-requires

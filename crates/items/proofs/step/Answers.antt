@@ -1,8 +1,6 @@
 -- `items::step` meets its contract.
 -- Assumes nothing.
 use Rattle.items.proofs.Framed.{wants_step, goes_step}
-use native.Mathlib.Omega.{arith}
-use borrow.Author.Rules.{rules}
 use Rattle.items.proofs.step.Goals as goal
 
 pub returns-then-top-eq0 : goal.returns-then-top-eq0

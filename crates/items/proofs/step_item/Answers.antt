@@ -4,7 +4,6 @@ use mathlib.Core.Path.{refl}
 use Rattle.items.proofs.Items.{token_on}
 use Rattle.items.proofs.Openings.{child_on, dos_on, step_ends}
 use native.Mathlib.Omega.{arith}
-use borrow.Author.Rules.{rules}
 use Rattle.items.proofs.step_item.Goals as goal
 
 pub test_item-requires : goal.test_item-requires

@@ -1,8 +1,6 @@
 -- `items::test_item` meets its contract.
 -- Assumes nothing.
 use Rattle.items.proofs.Items.{test_made, test_not}
-use native.Mathlib.Omega.{arith}
-use borrow.Author.Rules.{rules}
 use Rattle.items.proofs.test_item.Goals as goal
 
 pub returns-in-Refused : goal.returns-in-Refused

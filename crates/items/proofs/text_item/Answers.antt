@@ -1,8 +1,6 @@
 -- `items::text_item` meets its contract.
 -- Assumes nothing.
 use Rattle.items.proofs.Items.{text_made, text_not}
-use native.Mathlib.Omega.{arith}
-use borrow.Author.Rules.{rules}
 use Rattle.items.proofs.text_item.Goals as goal
 
 pub returns-in-Refused : goal.returns-in-Refused

@@ -2,8 +2,6 @@
 -- Assumes nothing.
 use Rattle.items.proofs.Outs.{got_on}
 use Rattle.items.proofs.Openings.{variable_on, variable_not}
-use native.Mathlib.Omega.{arith}
-use borrow.Author.Rules.{rules}
 use Rattle.items.proofs.variable_item.Goals as goal
 
 pub step_item-requires : goal.step_item-requires

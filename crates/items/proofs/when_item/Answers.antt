@@ -2,8 +2,6 @@
 -- Assumes nothing.
 use native.Mathlib.Numerals.{add-one}
 use Rattle.items.proofs.Guards.{when_deep, when_not, when_on, when_inside}
-use native.Mathlib.Omega.{arith}
-use borrow.Author.Rules.{rules}
 use Rattle.items.proofs.when_item.Goals as goal
 
 pub returns-then-deep-ge100 : goal.returns-then-deep-ge100

@@ -1,7 +1,6 @@
 -- `jobs::read_job` meets its contract: what the reader refuses is refused, and what it reads is settled by the checks. Assumes nothing.
 use Rattle.reading.proofs.Leaving.{answer_done}
 use Rattle.jobs.proofs.Checking.{job_ready, job_settled, job_stopped}
-use borrow.Author.Rules.{rules}
 use Rattle.jobs.proofs.read_job.Goals as goal
 
 pub settle-requires : goal.settle-requires

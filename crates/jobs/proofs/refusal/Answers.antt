@@ -1,6 +1,5 @@
 -- `jobs::refusal` meets its contract: by what the answer to a refusal is. Assumes nothing.
 use Rattle.jobs.specs.Says.{job_of}
-use borrow.Author.Rules.{rules}
 use Rattle.jobs.proofs.refusal.Goals as goal
 
 pub returns : goal.returns

@@ -4,7 +4,6 @@ use Rattle.words.proofs.Tables.{table_cleared, code_cleared}
 use Rattle.checks.specs.Says.{passed}
 use Rattle.jobs.proofs.Checking.{passed_leaves, refused_leaves}
 use native.Mathlib.Omega.{arith}
-use borrow.Author.Rules.{rules}
 use Rattle.jobs.proofs.settle.Goals as goal
 
 pub clear_entries-requires : goal.clear_entries-requires

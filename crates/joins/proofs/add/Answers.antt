@@ -1,5 +1,4 @@
 -- `joins::add` meets its contract: what append leaves. Assumes nothing.
-use borrow.Author.Rules.{rules}
 use Rattle.joins.proofs.add.Goals as goal
 
 pub returns : goal.returns

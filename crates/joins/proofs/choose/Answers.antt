@@ -1,6 +1,5 @@
 -- `joins::choose` meets its contract. Assumes nothing.
 use Rattle.joins.proofs.Added.{chosen_fine, chosen_entry, chosen_refused}
-use borrow.Author.Rules.{rules}
 use Rattle.joins.proofs.choose.Goals as goal
 
 pub returns-in_default : goal.returns-in_default

@@ -1,6 +1,5 @@
 -- `joins::free` meets its contract. Assumes nothing.
 use Rattle.joins.proofs.Added.{free_frees}
-use borrow.Author.Rules.{rules}
 use Rattle.joins.proofs.free.Goals as goal
 
 pub returns : goal.returns

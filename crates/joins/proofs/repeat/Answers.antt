@@ -1,5 +1,4 @@
 -- `joins::repeat` meets its contract: what U.q leaves. Assumes nothing.
-use borrow.Author.Rules.{rules}
 use Rattle.joins.proofs.repeat.Goals as goal
 
 pub returns : goal.returns

@@ -1,7 +1,6 @@
 -- `leaves::child` meets its contract: the tree variable's entry, then the rule for it. Assumes nothing.
 use native.Mathlib.Omega.{arith}
 use Rattle.leaves.proofs.Steps.{tree_low, child_stops, child_walks}
-use borrow.Author.Rules.{rules}
 use Rattle.leaves.proofs.child.Goals as goal
 
 pub returns-in-Refused : goal.returns-in-Refused

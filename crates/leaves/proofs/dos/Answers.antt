@@ -3,7 +3,6 @@ use mathlib.Core.Path.{refl}
 use native.Mathlib.Omega.{arith}
 use Rattle.dos.proofs.Rule.{given_ready, dos_ready, marks_ready}
 use Rattle.leaves.proofs.Steps.{tree_low, dos_stops, dos_walks}
-use borrow.Author.Rules.{rules}
 use Rattle.leaves.proofs.dos.Goals as goal
 
 pub returns-in-Refused : goal.returns-in-Refused

@@ -1,5 +1,4 @@
 -- `leaves::enter` meets its contract: an entry or a refusal, as it was found. Assumes nothing.
-use borrow.Author.Rules.{rules}
 use Rattle.leaves.proofs.enter.Goals as goal
 
 pub returns-in-Entry : goal.returns-in-Entry

@@ -1,6 +1,5 @@
 -- `leaves::nothing` meets its contract: entry 0 is there. Assumes nothing.
 use Rattle.leaves.proofs.Steps.{nothing_walks}
-use borrow.Author.Rules.{rules}
 use Rattle.leaves.proofs.nothing.Goals as goal
 
 pub returns : goal.returns

@@ -1,6 +1,5 @@
 -- `leaves::text` meets its contract: entry 1 is there. Assumes nothing.
 use Rattle.leaves.proofs.Steps.{text_walks}
-use borrow.Author.Rules.{rules}
 use Rattle.leaves.proofs.text.Goals as goal
 
 pub returns : goal.returns

@@ -1,6 +1,5 @@
 -- `leaves::variable` meets its contract: what stands in the scope for it. Assumes nothing.
 use Rattle.leaves.proofs.Steps.{variable_walks}
-use borrow.Author.Rules.{rules}
 use Rattle.leaves.proofs.variable.Goals as goal
 
 pub returns : goal.returns

@@ -4,7 +4,6 @@ use Rattle.moves.proofs.Adding.{moves}
 use lib.ListN.{length-take, length-drop}
 use mathlib.Core.Path.{refl}
 use native.Mathlib.Omega.{arith}
-use borrow.Author.Rules.{rules}
 use Rattle.moves.proofs.down.Goals as goal
 
 pub returns : goal.returns

@@ -5,7 +5,6 @@ use lib.Seq.{length-take-le}
 use Rattle.moves.proofs.Shifting.{stored_behind}
 use lib.ListN.{length-take, length-drop}
 use native.Mathlib.Omega.{arith}
-use borrow.Author.Rules.{rules}
 use Rattle.moves.proofs.hold.Goals as goal
 
 pub slice_bounds-copy-end : goal.slice_bounds-copy-end

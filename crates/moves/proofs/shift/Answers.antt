@@ -1,11 +1,10 @@
 -- `moves::shift` meets its contract.
 -- Assumes nothing.
 use Rattle.moves.proofs.Shifting.{moved, moved_length, moved_more}
-use Rattle.words.proofs.Stores.{Copied, copied_all}
+use Rattle.words.proofs.Stores.{copied_all}
 use lib.Seq.{paste-zero}
 use lib.ListN.{length-set}
 use mathlib.Core.Path.{refl}
-use Prim.Native.Nat.{◌-◌}
 use native.Mathlib.Omega.{arith}
 use borrow.Author.Rules.{rules}
 use Rattle.moves.proofs.shift.Goals as goal

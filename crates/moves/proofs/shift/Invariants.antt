@@ -1,12 +1,8 @@
 -- `moves::shift` meets its contract.
 -- Assumes nothing.
-use Rattle.moves.proofs.Shifting.{moved, moved_length, moved_more}
-use Rattle.words.proofs.Stores.{Copied, copied_all}
-use lib.Seq.{paste-zero}
-use lib.ListN.{length-set}
-use mathlib.Core.Path.{refl}
+use Rattle.moves.proofs.Shifting.{moved}
+use Rattle.words.proofs.Stores.{Copied}
 use Prim.Native.Nat.{◌-◌}
-use native.Mathlib.Omega.{arith}
 use Rattle.moves.proofs.shift.Given as goal
 
 abbrev pub invariant-loop-i : goal.invariant-loop-i

@@ -1,8 +1,6 @@
 -- `moves::wrap` meets its contract.
 -- Assumes nothing.
 use Rattle.moves.proofs.Adding.{wraps}
-use native.Mathlib.Omega.{arith}
-use borrow.Author.Rules.{rules}
 use Rattle.moves.proofs.wrap.Goals as goal
 
 pub returns : goal.returns

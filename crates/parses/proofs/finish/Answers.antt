@@ -1,8 +1,6 @@
 -- `parses::finish` meets its contract.
 -- Assumes nothing.
 use Rattle.parses.proofs.Finishing.{not_end, over_full, at_end}
-use native.Mathlib.Omega.{arith}
-use borrow.Author.Rules.{rules}
 use Rattle.parses.proofs.finish.Goals as goal
 
 pub returns-then-kind_of-ne0 : goal.returns-then-kind_of-ne0

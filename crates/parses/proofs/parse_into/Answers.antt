@@ -3,7 +3,6 @@
 use native.Mathlib.Omega.{arith}
 use Rattle.parses.proofs.Finishing.{parse_few, parsed_left}
 use native.Mathlib.Omega.{arith}
-use borrow.Author.Rules.{rules}
 use Rattle.parses.proofs.parse_into.Goals as goal
 
 pub settle-requires : goal.settle-requires

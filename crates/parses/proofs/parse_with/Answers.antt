@@ -1,8 +1,6 @@
 -- `parses::parse_with` meets its contract.
 -- Assumes nothing.
 use Rattle.parses.proofs.Finishing.{made_inside, parse_not, parse_on}
-use native.Mathlib.Omega.{arith}
-use borrow.Author.Rules.{rules}
 use Rattle.parses.proofs.parse_with.Goals as goal
 
 pub finish-requires : goal.finish-requires

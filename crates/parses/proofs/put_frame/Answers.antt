@@ -2,8 +2,6 @@
 -- Assumes nothing.
 use mathlib.Core.Path.{sym, ◌∙◌}
 use Rattle.parses.proofs.Looping.{opened_one, opened_many}
-use native.Mathlib.Omega.{arith}
-use borrow.Author.Rules.{rules}
 use Rattle.parses.proofs.put_frame.Goals as goal
 
 pub returns-then-is_list : goal.returns-then-is_list

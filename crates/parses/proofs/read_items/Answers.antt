@@ -2,7 +2,6 @@
 -- Assumes nothing.
 use Rattle.parses.proofs.Looping.{starts}
 use native.Mathlib.Omega.{arith}
-use borrow.Author.Rules.{rules}
 use Rattle.parses.proofs.read_items.Goals as goal
 
 pub run-requires : goal.run-requires

@@ -1,11 +1,8 @@
 -- `parses::run` meets its contract: each step by its answer; the measure is what is left of the text, and the tasks.
 -- Assumes nothing.
-use Prim.Native.Nat.{◌+◌, ◌-◌, ◌*◌}
-use lib.ListN.{length}
-use mathlib.Core.Path.{refl, sym, ◌∙◌}
-use Rattle.parses.proofs.Looping.{Looping, step_refused, step_done, step_more, step_again, all_ends, going_inside, going_few, going_low}
+use mathlib.Core.Path.{refl, ◌∙◌}
+use Rattle.parses.proofs.Looping.{step_refused, step_done, step_more, step_again, all_ends, going_inside, going_few, going_low}
 use native.Mathlib.Omega.{arith}
-use borrow.Author.Rules.{rules}
 use Rattle.parses.proofs.run.Goals as goal
 
 pub loop-tasks-init : goal.loop-tasks-init

@@ -2,9 +2,7 @@
 -- Assumes nothing.
 use Prim.Native.Nat.{◌+◌, ◌-◌, ◌*◌}
 use lib.ListN.{length}
-use mathlib.Core.Path.{refl, sym, ◌∙◌}
-use Rattle.parses.proofs.Looping.{Looping, step_refused, step_done, step_more, step_again, all_ends, going_inside, going_few, going_low}
-use native.Mathlib.Omega.{arith}
+use Rattle.parses.proofs.Looping.{Looping}
 use Rattle.parses.proofs.run.Given as goal
 
 abbrev pub invariant-loop-tasks : goal.invariant-loop-tasks

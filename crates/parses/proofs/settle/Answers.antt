@@ -1,10 +1,7 @@
 -- `parses::settle` meets its contract.
 -- Assumes nothing.
-use mathlib.Core.Path.{subst}
 use Rattle.words.proofs.Stores.{blanked_whole}
 use Rattle.parses.proofs.Finishing.{settles_not, settles_bytes, settles_short, few_listed}
-use native.Mathlib.Omega.{arith}
-use borrow.Author.Rules.{rules}
 use Rattle.parses.proofs.settle.Goals as goal
 
 pub write-requires : goal.write-requires

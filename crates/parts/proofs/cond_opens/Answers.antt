@@ -4,7 +4,6 @@ use mathlib.Core.Path.{refl}
 use Rattle.parts.specs.Items as Items
 use Rattle.conds.specs.declared.Cond.TheVariants as Cond
 use Rattle.parts.proofs.Pushing.{cond_opens_lem}
-use borrow.Author.Rules.{rules}
 use Rattle.parts.proofs.cond_opens.Goals as goal
 
 pub returns-in-True : goal.returns-in-True

@@ -2,7 +2,6 @@
 -- Assumes nothing.
 use mathlib.Core.Path.{refl}
 use Rattle.parts.proofs.Nodes.{node_inside, cond_parts, query_parts}
-use borrow.Author.Rules.{rules}
 use Rattle.parts.proofs.expand.Goals as goal
 
 pub read_cond-p-requires : goal.read_cond-p-requires

@@ -2,7 +2,6 @@
 -- Assumes nothing.
 use mathlib.Core.Path.{refl}
 use Rattle.parts.proofs.Nodes.{node_inside, cond_opening, query_opening}
-use borrow.Author.Rules.{rules}
 use Rattle.parts.proofs.opens.Goals as goal
 
 pub read_cond-p-requires : goal.read_cond-p-requires

@@ -2,7 +2,6 @@
 -- Assumes nothing.
 use Rattle.parts.proofs.Pushing.{pushes_one}
 use native.Mathlib.Omega.{arith}
-use borrow.Author.Rules.{rules}
 use Rattle.parts.proofs.push.Goals as goal
 
 pub overflow_add-result : goal.overflow_add-result

@@ -4,7 +4,6 @@ use Rattle.parts.specs.Items as Items
 use Rattle.conds.specs.declared.Cond.TheVariants as Cond
 use Rattle.parts.proofs.Pushing.{grown_by, cond_arm}
 use native.Mathlib.Omega.{arith}
-use borrow.Author.Rules.{rules}
 use Rattle.parts.proofs.push_cond.Goals as goal
 
 pub push-requires : goal.push-requires

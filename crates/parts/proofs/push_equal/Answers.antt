@@ -2,7 +2,6 @@
 -- Assumes nothing.
 use Rattle.parts.proofs.Pushing.{pushes_then}
 use native.Mathlib.Omega.{arith}
-use borrow.Author.Rules.{rules}
 use Rattle.parts.proofs.push_equal.Goals as goal
 
 pub push_number-one-requires : goal.push_number-one-requires

@@ -2,7 +2,6 @@
 -- Assumes nothing.
 use Rattle.parts.proofs.Pushing.{grown_by, pair_many, pair_one}
 use native.Mathlib.Omega.{arith}
-use borrow.Author.Rules.{rules}
 use Rattle.parts.proofs.push_items.Goals as goal
 
 pub push_pair-requires : goal.push_pair-requires

@@ -4,7 +4,6 @@ use Rattle.parts.specs.Items as Items
 use Rattle.queries.specs.declared.Query.TheVariants as Query
 use Rattle.parts.proofs.Pushing.{grown_by, query_arm}
 use native.Mathlib.Omega.{arith}
-use borrow.Author.Rules.{rules}
 use Rattle.parts.proofs.push_query.Goals as goal
 
 pub push_word-requires : goal.push_word-requires

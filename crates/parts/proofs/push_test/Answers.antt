@@ -1,7 +1,6 @@
 -- `parts::push_test` meets its contract: by the three ranges of a test word.
 -- Assumes nothing.
 use Rattle.parts.proofs.Pushing.{test_node, test_text, test_label}
-use borrow.Author.Rules.{rules}
 use Rattle.parts.proofs.push_test.Goals as goal
 
 pub returns-then-w-eq0 : goal.returns-then-w-eq0

@@ -4,7 +4,6 @@ use mathlib.Core.Path.{refl}
 use Rattle.parts.specs.Items as Items
 use Rattle.queries.specs.declared.Query.TheVariants as Query
 use Rattle.parts.proofs.Pushing.{query_opens_lem}
-use borrow.Author.Rules.{rules}
 use Rattle.parts.proofs.query_opens.Goals as goal
 
 pub returns-in-Nothing : goal.returns-in-Nothing

@@ -2,8 +2,6 @@
 -- Assumes nothing.
 use Rattle.picks.proofs.Looking.{stretch, shown}
 use Rattle.meaning.specs.Running.{value_of}
-use native.Mathlib.Omega.{arith}
-use borrow.Author.Rules.{rules}
 use Rattle.picks.proofs.child.Goals as goal
 
 pub inner-requires : goal.inner-requires

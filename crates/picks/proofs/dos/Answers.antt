@@ -6,7 +6,6 @@ use Rattle.meaning.specs.Forests.{end, join}
 use Rattle.picks.proofs.Looking.{stretch, shown}
 use Rattle.meaning.specs.Running.{value_of}
 use native.Mathlib.Omega.{arith}
-use borrow.Author.Rules.{rules}
 use Rattle.picks.proofs.dos.Goals as goal
 
 pub chosen-requires : goal.chosen-requires

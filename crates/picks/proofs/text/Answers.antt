@@ -2,8 +2,6 @@
 -- Assumes nothing.
 use Rattle.meaning.specs.Forests.{end, leaf, forest_words}
 use mathlib.Core.Path.{refl}
-use native.Mathlib.Omega.{arith}
-use borrow.Author.Rules.{rules}
 use Rattle.picks.proofs.text.Goals as goal
 
 pub returns : goal.returns

@@ -4,7 +4,6 @@ use Rattle.spans.specs.Shows.{part}
 use Rattle.picks.proofs.Looking.{stretch, shown}
 use Rattle.meaning.specs.Running.{value_of}
 use native.Mathlib.Omega.{arith}
-use borrow.Author.Rules.{rules}
 use Rattle.picks.proofs.variable.Goals as goal
 
 pub slice_bounds-place-count : goal.slice_bounds-place-count

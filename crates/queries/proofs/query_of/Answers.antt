@@ -4,7 +4,6 @@ use Rattle.meaning.specs.Base.{find}
 use Rattle.meaning.specs.Kinds
 use Rattle.meaning.specs.Queries.{expand_query}
 use Rattle.queries.proofs.Nodes.{says_kind, says_rest}
-use borrow.Author.Rules.{rules}
 use Rattle.queries.proofs.query_of.Goals as goal
 
 pub returns-in-33 : goal.returns-in-33

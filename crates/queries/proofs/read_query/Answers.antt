@@ -1,6 +1,5 @@
 -- `queries::read_query` meets its contract: the words that are read are those of the node. Assumes nothing.
 use Rattle.queries.proofs.Nodes.{says_read}
-use borrow.Author.Rules.{rules}
 use Rattle.queries.proofs.read_query.Goals as goal
 
 pub returns : goal.returns

@@ -1,6 +1,5 @@
 -- `reach::atom_passes` meets its contract: String, an element, anything else. Assumes nothing.
 use Rattle.reach.proofs.Atoms.{atom_text, atom_element, atom_other}
-use borrow.Author.Rules.{rules}
 use Rattle.reach.proofs.atom_passes.Goals as goal
 
 pub returns-then-kind-eq2 : goal.returns-then-kind-eq2

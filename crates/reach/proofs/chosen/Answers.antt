@@ -4,7 +4,6 @@ use Rattle.meaning.specs.Types.{Entry, head_of}
 use Rattle.meaning.specs.Reach.{atom_passes}
 use Rattle.words.proofs.Entries.{words_make}
 use Rattle.reach.proofs.Atoms.{chosen_over, chosen_atom}
-use borrow.Author.Rules.{rules}
 use Rattle.reach.proofs.chosen.Goals as goal
 
 pub returns-then-marks-i-eq0 : goal.returns-then-marks-i-eq0

@@ -1,10 +1,5 @@
 -- `reach::next` meets its contract: what is kept from i on is what is kept from here on (`Seeking`). Assumes nothing.
-use Prim.Native.Nat.{◌-◌}
-use Rattle.words.specs.Tables.{table_of}
-use Rattle.reach.specs.Marks.{marks_of}
-use Rattle.reach.specs.Atoms.{picked}
-use Rattle.reach.proofs.Atoms.{Seeking, seeking_none, seeking_more, seeking_here, seeking_all}
-use borrow.Author.Rules.{rules}
+use Rattle.reach.proofs.Atoms.{seeking_none, seeking_more, seeking_here, seeking_all}
 use Rattle.reach.proofs.next.Goals as goal
 
 pub loop-k-init : goal.loop-k-init

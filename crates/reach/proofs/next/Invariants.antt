@@ -3,7 +3,7 @@ use Prim.Native.Nat.{◌-◌}
 use Rattle.words.specs.Tables.{table_of}
 use Rattle.reach.specs.Marks.{marks_of}
 use Rattle.reach.specs.Atoms.{picked}
-use Rattle.reach.proofs.Atoms.{Seeking, seeking_none, seeking_more, seeking_here, seeking_all}
+use Rattle.reach.proofs.Atoms.{Seeking}
 use Rattle.reach.proofs.next.Given as goal
 
 abbrev pub invariant-loop-k : goal.invariant-loop-k

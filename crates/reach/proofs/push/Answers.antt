@@ -3,7 +3,6 @@ use mathlib.Core.Path.{refl}
 use lib.ListN.{length-set}
 use Rattle.reach.proofs.Pushing.{grew_old, grew_new, push_room}
 use native.Mathlib.Omega.{arith}
-use borrow.Author.Rules.{rules}
 use Rattle.reach.proofs.push.Goals as goal
 
 pub returns-then-marks-e-ne0 : goal.returns-then-marks-e-ne0

@@ -1,6 +1,5 @@
 -- `reach::push_two` meets its contract. Assumes nothing.
 use Rattle.reach.proofs.Pushing.{grew_two, grew_room}
-use borrow.Author.Rules.{rules}
 use Rattle.reach.proofs.push_two.Goals as goal
 
 pub push-requires : goal.push-requires

@@ -1,9 +1,8 @@
 -- `reach::reach` meets its contract: what is marked is reached, and what stands in it is marked or still to be visited (`Visiting`). Assumes nothing.
 use mathlib.Core.Path.{refl, sym, ◌∙◌}
 use lib.Seq.{length-take-le}
-use Rattle.reach.proofs.Reaching.{cleared_length, Anyhow, left_over, start_room, anyhow_start, anyhow_room, anyhow_place, anyhow_small, anyhow_within, anyhow_inside, anyhow_visited, anyhow_end, one_left, over_less}
+use Rattle.reach.proofs.Reaching.{cleared_length, start_room, anyhow_start, anyhow_room, anyhow_place, anyhow_small, anyhow_within, anyhow_inside, anyhow_visited, anyhow_end, one_left, over_less}
 use native.Mathlib.Omega.{arith}
-use borrow.Author.Rules.{rules}
 use Rattle.reach.proofs.reach.Goals as goal
 
 pub slice_bounds-clear-end : goal.slice_bounds-clear-end

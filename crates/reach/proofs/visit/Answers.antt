@@ -4,7 +4,6 @@ use mathlib.Core.List.{[], ◌∷◌}
 use Rattle.reach.proofs.Pushing.{grew_none, grew_by}
 use Rattle.reach.proofs.Steps.{steps_element, steps_two, steps_one, steps_name, steps_below, steps_above, within_one, within_two, within_name}
 use native.Mathlib.Omega.{arith}
-use borrow.Author.Rules.{rules}
 use Rattle.reach.proofs.visit.Goals as goal
 
 pub push-requires : goal.push-requires

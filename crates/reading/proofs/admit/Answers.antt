@@ -1,7 +1,6 @@
 -- `reading::admit` meets its contract: the four tests in the order of the refusals, each by its law.
 -- Assumes nothing.
 use Rattle.reading.proofs.Admitting.{disordered, crowded, unfit, repeated, admitted}
-use borrow.Author.Rules.{rules}
 use mathlib.Core.Path.{ap}
 use mathlib.Core.Bool.{not}
 use Rattle.reading.proofs.admit.Goals as goal

@@ -1,7 +1,6 @@
 -- `reading::advance` meets its contract: what stands there decides, and then the four tests.
 -- Assumes nothing.
 use Rattle.reading.proofs.Admitting.{cut, strange, misfit, whole}
-use borrow.Author.Rules.{rules}
 use Rattle.reading.proofs.advance.Goals as goal
 
 pub returns-in-Cut : goal.returns-in-Cut

@@ -1,7 +1,6 @@
 -- `reading::again` meets its contract: only a record of a variable declares one.
 -- Assumes nothing.
 use Rattle.reading.proofs.Looking.{again_in, again_not}
-use borrow.Author.Rules.{rules}
 use Rattle.reading.proofs.again.Goals as goal
 
 pub returns-then-section-eq2 : goal.returns-then-section-eq2

@@ -1,8 +1,6 @@
 -- `reading::declared` meets its contract: looking on from a variable is looking through all.
 -- Assumes nothing.
-use Prim.Native.Nat.{◌-◌}
-use Rattle.reading.proofs.Looking.{Looking, look, found_here, not_here, not_found}
-use borrow.Author.Rules.{rules}
+use Rattle.reading.proofs.Looking.{look, found_here, not_here, not_found}
 use Rattle.reading.proofs.declared.Goals as goal
 
 pub loop-i-init : goal.loop-i-init

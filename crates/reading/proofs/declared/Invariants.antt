@@ -1,7 +1,7 @@
 -- `reading::declared` meets its contract: looking on from a variable is looking through all.
 -- Assumes nothing.
 use Prim.Native.Nat.{◌-◌}
-use Rattle.reading.proofs.Looking.{Looking, look, found_here, not_here, not_found}
+use Rattle.reading.proofs.Looking.{Looking}
 use Rattle.reading.proofs.declared.Given as goal
 
 abbrev pub invariant-loop-i : goal.invariant-loop-i

@@ -1,7 +1,6 @@
 -- `reading::in_order` meets its contract: by whether record 80 was read, and then by the sections' numbers.
 -- Assumes nothing.
 use Rattle.reading.proofs.Sections.{order_ended, order_open}
-use borrow.Author.Rules.{rules}
 use Rattle.reading.proofs.in_order.Goals as goal
 
 pub returns-then-here : goal.returns-then-here

@@ -1,7 +1,6 @@
 -- `reading::nothing_given` meets its contract: arrays of zeros. Assumes nothing.
 use mathlib.Core.Path.{refl}
 use Rattle.meaning.specs.Base.{zeros}
-use borrow.Author.Rules.{rules}
 use Rattle.reading.proofs.nothing_given.Goals as goal
 
 pub returns : goal.returns

@@ -1,7 +1,6 @@
 -- `reading::put_base` meets its contract: two entries stored behind nothing.
 -- Assumes nothing.
 use Rattle.reading.proofs.Whole.{base_held}
-use borrow.Author.Rules.{rules}
 use Rattle.reading.proofs.put_base.Goals as goal
 
 pub returns : goal.returns

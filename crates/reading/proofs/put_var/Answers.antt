@@ -3,7 +3,6 @@
 use native.Mathlib.Omega.{arith}
 use lib.ListN.{length-set}
 use Rattle.words.proofs.Stores.{stored_three}
-use borrow.Author.Rules.{rules}
 use Rattle.reading.proofs.put_var.Goals as goal
 
 pub bounds-vars-at-2 : goal.bounds-vars-at-2

@@ -5,7 +5,6 @@ use Rattle.meaning.specs.Base.{zeros}
 use Rattle.reading.specs.Lists.{lists}
 use Rattle.reading.proofs.Whole.{begun, types_inside, nodes_inside, left_refused, left_done}
 use native.Mathlib.Omega.{arith}
-use borrow.Author.Rules.{rules}
 use Rattle.reading.proofs.read_into.Goals as goal
 
 pub read_on-requires : goal.read_on-requires

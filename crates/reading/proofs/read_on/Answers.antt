@@ -1,10 +1,7 @@
 -- `reading::read_on` meets its contract: reading on from here, onto the tables that the lists hold, is reading the whole; what is left of the file falls.
 -- Assumes nothing.
-use Prim.Native.Nat.{◌-◌}
-use lib.ListN.{length}
 use Rattle.reading.specs.Lists.{lists}
-use Rattle.reading.proofs.Going.{Going, begin, ready, done, refuses, space, less, goes}
-use borrow.Author.Rules.{rules}
+use Rattle.reading.proofs.Going.{begin, ready, done, refuses, space, less, goes}
 use Rattle.reading.proofs.read_on.Goals as goal
 
 pub loop-here-init : goal.loop-here-init

@@ -3,7 +3,7 @@
 use Prim.Native.Nat.{◌-◌}
 use lib.ListN.{length}
 use Rattle.reading.specs.Lists.{lists}
-use Rattle.reading.proofs.Going.{Going, begin, ready, done, refuses, space, less, goes}
+use Rattle.reading.proofs.Going.{Going}
 use Rattle.reading.proofs.read_on.Given as goal
 
 abbrev pub invariant-loop-here : goal.invariant-loop-here

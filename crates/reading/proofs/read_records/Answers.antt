@@ -2,7 +2,6 @@
 -- Assumes nothing.
 use native.Mathlib.Omega.{arith}
 use Rattle.reading.proofs.Whole.{cleared, left_small, left_same}
-use borrow.Author.Rules.{rules}
 use Rattle.reading.proofs.read_records.Goals as goal
 
 pub returns-then-type_room-lt2 : goal.returns-then-type_room-lt2

@@ -1,6 +1,5 @@
 -- `reading::refusal` meets its contract: by what the answer to a refusal is. Assumes nothing.
 use Rattle.reading.specs.Says.{read_of}
-use borrow.Author.Rules.{rules}
 use Rattle.reading.proofs.refusal.Goals as goal
 
 pub returns : goal.returns

@@ -3,7 +3,6 @@
 use mathlib.Core.Path.{refl, ap}
 use Rattle.words.specs.declared.Node.{Node}
 use Rattle.records.proofs.Fit.{at_sort, label_low, label_high, an_entry, no_query, no_condition, a_query, a_condition}
-use borrow.Author.Rules.{rules}
 use Rattle.records.proofs.field_fits.Goals as goal
 
 pub returns-then-w-lt1 : goal.returns-then-w-lt1

@@ -1,7 +1,6 @@
 -- `records::has_section` meets its contract: each file by its own law.
 -- Assumes nothing.
 use Rattle.records.proofs.Sections.{in_job, in_answer, in_answer_end}
-use borrow.Author.Rules.{rules}
 use Rattle.records.proofs.has_section.Goals as goal
 
 pub returns-then-section-le1 : goal.returns-then-section-le1

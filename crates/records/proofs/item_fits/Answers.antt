@@ -1,7 +1,6 @@
 -- `records::item_fits` meets its contract: the fields one by one, as many as the length says.
 -- Assumes nothing.
 use Rattle.records.proofs.Fit.{none_there, first_bad, one_there, second_bad, two_there, three_there}
-use borrow.Author.Rules.{rules}
 use mathlib.Core.Path.{ap}
 use mathlib.Core.Bool.{not}
 use Rattle.records.proofs.item_fits.Goals as goal

@@ -3,7 +3,6 @@
 use mathlib.Core.Path.{◌∙◌}
 use Rattle.records.proofs.Fit.{failed, passed}
 use Rattle.records.proofs.Found.{short, strange, foreign, misfit, past, whole}
-use borrow.Author.Rules.{rules}
 use mathlib.Core.Path.{ap}
 use mathlib.Core.Bool.{not}
 use Rattle.records.proofs.record_at.Goals as goal

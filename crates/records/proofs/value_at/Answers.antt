@@ -2,7 +2,6 @@
 -- Assumes nothing.
 use mathlib.Core.Path.{refl, ◌∙◌}
 use Rattle.records.proofs.Found.{short, not_own, own_formed, misfit, past, whole}
-use borrow.Author.Rules.{rules}
 use Rattle.records.proofs.value_at.Goals as goal
 
 pub returns-then-left-lt4 : goal.returns-then-left-lt4

@@ -3,7 +3,6 @@
 use mathlib.Core.List.{[]}
 use Rattle.words.specs.Tables.{code_of}
 use Rattle.records.proofs.Fit.{none_there, first_bad, one_there, second_bad, two_there, three_there}
-use borrow.Author.Rules.{rules}
 use mathlib.Core.Path.{ap}
 use mathlib.Core.Bool.{not}
 use Rattle.records.proofs.value_fits.Goals as goal

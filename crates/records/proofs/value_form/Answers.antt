@@ -5,7 +5,6 @@ use Rattle.meaning.specs.Base.{find}
 use Rattle.meaning.specs.Records.{forms}
 use Rattle.records.specs.Says.{section_of, sorts_of}
 use Rattle.records.proofs.Arms.{a_value, no_value}
-use borrow.Author.Rules.{rules}
 use Rattle.records.proofs.value_form.Goals as goal
 
 pub returns-in-64 : goal.returns-in-64

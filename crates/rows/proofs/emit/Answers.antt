@@ -2,7 +2,6 @@
 -- Assumes nothing.
 use Rattle.rows.proofs.Emitting.{emits_row, emits_none}
 use native.Mathlib.Omega.{arith}
-use borrow.Author.Rules.{rules}
 use Rattle.rows.proofs.emit.Goals as goal
 
 pub put_node-requires : goal.put_node-requires

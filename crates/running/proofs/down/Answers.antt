@@ -11,8 +11,6 @@ use Rattle.queries.proofs.Named.{element_low, pair_low, variable_low, child_low,
 use Rattle.running.proofs.Leaving.{text_is, variable_is, child_is, dos_is}
 use Rattle.running.proofs.Wholes.{within}
 use Rattle.running.proofs.Entering.{asked, few_here, copy_done, pair_comes, for_comes, let_comes, nothing_done, guards}
-use native.Mathlib.Omega.{arith}
-use borrow.Author.Rules.{rules}
 use Rattle.running.proofs.down.Goals as goal
 
 pub text-made-requires : goal.text-made-requires

@@ -4,7 +4,6 @@ use mathlib.Core.Path.{refl}
 use Rattle.running.proofs.Parts.{one_less, body_count}
 use Rattle.running.proofs.Returning.{body_loops, body_from, body_steps, for_fits, for_low, source_loops, source_steps, returns_low}
 use native.Mathlib.Omega.{arith}
-use borrow.Author.Rules.{rules}
 use Rattle.running.proofs.each.Goals as goal
 
 pub unbind-requires : goal.unbind-requires

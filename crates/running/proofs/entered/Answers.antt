@@ -4,7 +4,6 @@ use mathlib.Core.Path.{refl}
 use Rattle.running.proofs.Frames.{turned}
 use Rattle.running.proofs.Entering.{element_done, element_comes}
 use native.Mathlib.Omega.{arith}
-use borrow.Author.Rules.{rules}
 use Rattle.running.proofs.entered.Goals as goal
 
 pub returns-then-room-lt3 : goal.returns-then-room-lt3

@@ -1,14 +1,10 @@
 -- `running::eval` meets its contract: the nodes that are begun, and the spot that is to be done or was done last, say what is left (`Going`).
 -- Assumes nothing.
 use mathlib.Core.Path.{refl}
-use lib.ListN.{length}
-use Rattle.spans.specs.Shows.{scope}
-use Rattle.running.specs.Machine.{spot}
 use Rattle.running.proofs.Entering.{few_here}
 use Rattle.running.proofs.Parts.{one_less}
-use Rattle.running.proofs.Going.{Going, left, going_start, at_node, at_answer, at_done, down_after, down_inside, down_ready, down_deep, down_goes, down_less, up_deep, up_after, up_inside, up_back, up_goes, up_less, end_leaves, stop_leaves}
+use Rattle.running.proofs.Going.{going_start, at_node, at_answer, at_done, down_after, down_inside, down_ready, down_deep, down_goes, down_less, up_deep, up_after, up_inside, up_back, up_goes, up_less, end_leaves, stop_leaves}
 use native.Mathlib.Omega.{arith}
-use borrow.Author.Rules.{rules}
 use Rattle.running.proofs.eval.Goals as goal
 
 pub loop-next-init : goal.loop-next-init

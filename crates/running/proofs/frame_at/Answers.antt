@@ -1,7 +1,6 @@
 -- `running::frame_at` meets its contract.
 -- Assumes nothing.
 use Rattle.running.proofs.Frames.{frame_read}
-use borrow.Author.Rules.{rules}
 use Rattle.running.proofs.frame_at.Goals as goal
 
 pub returns : goal.returns

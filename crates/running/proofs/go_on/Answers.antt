@@ -2,7 +2,6 @@
 -- Assumes nothing.
 use Rattle.running.proofs.Frames.{went, framed_is}
 use native.Mathlib.Omega.{arith}
-use borrow.Author.Rules.{rules}
 use Rattle.running.proofs.go_on.Goals as goal
 
 pub returns : goal.returns

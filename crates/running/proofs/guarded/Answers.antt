@@ -4,7 +4,6 @@ use mathlib.Core.Path.{refl}
 use Rattle.running.proofs.Frames.{turned}
 use Rattle.running.proofs.Entering.{when_done, when_comes, tells_at}
 use native.Mathlib.Omega.{arith}
-use borrow.Author.Rules.{rules}
 use Rattle.running.proofs.guarded.Goals as goal
 
 pub truth-requires : goal.truth-requires

@@ -5,7 +5,6 @@ use Rattle.running.proofs.Frames.{turned}
 use Rattle.running.proofs.Parts.{one_less}
 use Rattle.running.proofs.Returning.{let_on, let_up, let_space, base_low, source_fits, done_up, returns_low}
 use native.Mathlib.Omega.{arith}
-use borrow.Author.Rules.{rules}
 use Rattle.running.proofs.named.Goals as goal
 
 pub unbind-requires : goal.unbind-requires

@@ -5,7 +5,6 @@ use Rattle.running.proofs.Frames.{turned}
 use Rattle.running.proofs.Parts.{one_less}
 use Rattle.running.proofs.Returning.{pair_on, pair_up, done_up}
 use native.Mathlib.Omega.{arith}
-use borrow.Author.Rules.{rules}
 use Rattle.running.proofs.paired.Goals as goal
 
 pub returns-then-f-eq0 : goal.returns-then-f-eq0

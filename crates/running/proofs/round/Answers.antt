@@ -4,7 +4,6 @@ use mathlib.Core.Path.{refl}
 use Rattle.running.proofs.Frames.{turned}
 use Rattle.running.proofs.Rounding.{loop_low, loop_inside, loop_space, source_is, more_is, none_is, there_is, tree_ends, round_on, round_up}
 use native.Mathlib.Omega.{arith}
-use borrow.Author.Rules.{rules}
 use Rattle.running.proofs.round.Goals as goal
 
 pub overflow_sub-k : goal.overflow_sub-k

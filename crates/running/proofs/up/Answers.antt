@@ -5,7 +5,6 @@ use Rattle.queries.specs.declared.Query.TheVariants as Query
 use Rattle.queries.proofs.Named.{pair_low, for_low, let_low}
 use Rattle.running.proofs.Returning.{said, says_query, element_space, element_up, done_up, pair_few, returns_low, other_up, node_inside}
 use native.Mathlib.Omega.{arith}
-use borrow.Author.Rules.{rules}
 use borrow.Enum.Refused.{opened}
 use Rattle.running.proofs.up.Goals as goal
 

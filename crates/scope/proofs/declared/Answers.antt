@@ -1,10 +1,6 @@
 -- `scope::declared` meets its contract.
 -- Assumes nothing.
-use Prim.Native.Nat.{◌≤◌}
 use mathlib.Core.Path.{◌≡◌, refl}
-use lib.ListN.{length, drop}
-use Rattle.words.specs.Tables.{vars_of}
-use Rattle.scope.specs.Shows.{Shows}
 use Rattle.scope.proofs.Given.{turn_low, turn_shows, shows_none}
 use borrow.Author.Rules.{rules}
 use Rattle.scope.proofs.declared.Goals as goal

@@ -1,11 +1,10 @@
 -- `scope::declared` meets its contract.
 -- Assumes nothing.
 use Prim.Native.Nat.{◌≤◌}
-use mathlib.Core.Path.{◌≡◌, refl}
+use mathlib.Core.Path.{◌≡◌}
 use lib.ListN.{length, drop}
 use Rattle.words.specs.Tables.{vars_of}
 use Rattle.scope.specs.Shows.{Shows}
-use Rattle.scope.proofs.Given.{turn_low, turn_shows, shows_none}
 use Rattle.scope.proofs.declared.Given as goal
 
 abbrev pub invariant-loop-i : goal.invariant-loop-i

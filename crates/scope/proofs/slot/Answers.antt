@@ -2,7 +2,6 @@
 -- Assumes nothing.
 use native.Mathlib.Omega.{arith}
 use Rattle.scope.specs.Shows.{slot_of}
-use borrow.Author.Rules.{rules}
 use Rattle.scope.proofs.slot.Goals as goal
 
 pub overflow_mul-result : goal.overflow_mul-result

@@ -2,7 +2,6 @@
 -- Assumes nothing.
 use borrow.Author.Tests.{eq-eqb, ne_eqb}
 use Rattle.scope.specs.Shows.{var_as}
-use borrow.Author.Rules.{rules}
 use Rattle.scope.proofs.variable.Goals as goal
 
 pub returns-then-kind-eq17 : goal.returns-then-kind-eq17

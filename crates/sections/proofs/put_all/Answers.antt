@@ -1,9 +1,7 @@
 -- `sections::put_all` meets its contract: the records so far stand in the buffer.
 -- Assumes nothing.
-use Prim.Native.Nat.{◌-◌}
-use Rattle.sections.proofs.Turns.{Recording, recording_none, recording_room, recording_more, recording_all}
+use Rattle.sections.proofs.Turns.{recording_none, recording_room, recording_more, recording_all}
 use native.Mathlib.Omega.{arith}
-use borrow.Author.Rules.{rules}
 use Rattle.sections.proofs.put_all.Goals as goal
 
 pub loop-i-init : goal.loop-i-init

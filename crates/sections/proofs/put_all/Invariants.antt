@@ -1,8 +1,7 @@
 -- `sections::put_all` meets its contract: the records so far stand in the buffer.
 -- Assumes nothing.
 use Prim.Native.Nat.{◌-◌}
-use Rattle.sections.proofs.Turns.{Recording, recording_none, recording_room, recording_more, recording_all}
-use native.Mathlib.Omega.{arith}
+use Rattle.sections.proofs.Turns.{Recording}
 use Rattle.sections.proofs.put_all.Given as goal
 
 abbrev pub invariant-loop-i : goal.invariant-loop-i

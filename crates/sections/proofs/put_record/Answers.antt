@@ -2,7 +2,6 @@
 -- Assumes nothing.
 use Rattle.sections.proofs.Fields.{size_small, put_none, put_one, put_two, put_three}
 use native.Mathlib.Omega.{arith}
-use borrow.Author.Rules.{rules}
 use Rattle.sections.proofs.put_record.Goals as goal
 
 pub overflow_cast-size : goal.overflow_cast-size

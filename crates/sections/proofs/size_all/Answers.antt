@@ -1,9 +1,7 @@
 -- `sections::size_all` meets its contract: the bytes so far, with those to come, are the whole.
 -- Assumes nothing.
-use Prim.Native.Nat.{◌-◌}
-use Rattle.sections.proofs.Turns.{Sizing, sizing_none, sizing_more, sizing_room, sizing_all}
+use Rattle.sections.proofs.Turns.{sizing_none, sizing_more, sizing_room, sizing_all}
 use native.Mathlib.Omega.{arith}
-use borrow.Author.Rules.{rules}
 use Rattle.sections.proofs.size_all.Goals as goal
 
 pub loop-i-init : goal.loop-i-init

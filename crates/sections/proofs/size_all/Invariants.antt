@@ -1,8 +1,7 @@
 -- `sections::size_all` meets its contract: the bytes so far, with those to come, are the whole.
 -- Assumes nothing.
 use Prim.Native.Nat.{◌-◌}
-use Rattle.sections.proofs.Turns.{Sizing, sizing_none, sizing_more, sizing_room, sizing_all}
-use native.Mathlib.Omega.{arith}
+use Rattle.sections.proofs.Turns.{Sizing}
 use Rattle.sections.proofs.size_all.Given as goal
 
 abbrev pub invariant-loop-i : goal.invariant-loop-i

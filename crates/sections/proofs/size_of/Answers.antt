@@ -1,8 +1,6 @@
 -- `sections::size_of` meets its contract.
 -- Assumes nothing.
 use Rattle.sections.proofs.Fields.{size_known, size_unknown}
-use native.Mathlib.Omega.{arith}
-use borrow.Author.Rules.{rules}
 use Rattle.sections.proofs.size_of.Goals as goal
 
 pub returns-in_default : goal.returns-in_default

@@ -3,7 +3,6 @@
 use Rattle.words.proofs.Stores.{blanked_whole}
 use Rattle.sections.proofs.Turns.{left_written, left_short}
 use native.Mathlib.Omega.{arith}
-use borrow.Author.Rules.{rules}
 use Rattle.sections.proofs.write.Goals as goal
 
 pub returns-then-out-needed : goal.returns-then-out-needed

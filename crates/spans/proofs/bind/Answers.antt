@@ -1,6 +1,5 @@
 -- `spans::bind` meets its contract: the stretch that stood there is answered, and both words are replaced. Assumes nothing.
 use mathlib.Core.Path.{refl}
-use borrow.Author.Rules.{rules}
 use Rattle.spans.proofs.bind.Goals as goal
 
 pub returns : goal.returns

@@ -1,6 +1,5 @@
 -- `spans::unbind` meets its contract: both words are replaced. Assumes nothing.
 use mathlib.Core.Path.{refl}
-use borrow.Author.Rules.{rules}
 use Rattle.spans.proofs.unbind.Goals as goal
 
 pub returns : goal.returns

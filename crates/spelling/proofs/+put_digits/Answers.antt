@@ -4,7 +4,6 @@ use mathlib.Core.Path.{refl}
 use Prim.Native.Nat.{◌-◌, ◌/◌}
 use native.Mathlib.Omega.{arith}
 use Rattle.spelling.proofs.Spelling.{none_put, one_put, more_put, digits_most}
-use borrow.Author.Rules.{rules}
 use Rattle.spelling.proofs.+put_digits.Goals as goal
 
 pub returns-then-most-eq0 : goal.returns-then-most-eq0

@@ -2,7 +2,6 @@
 -- Assumes nothing.
 use mathlib.Core.Path.{refl}
 use Rattle.spelling.proofs.Spelling.{wide_no, wide_word, wide_gets, wide_last}
-use borrow.Author.Rules.{rules}
 use Rattle.spelling.proofs.is_wide.Goals as goal
 
 pub returns-then-kind-lt3 : goal.returns-then-kind-lt3

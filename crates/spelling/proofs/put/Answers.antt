@@ -2,7 +2,6 @@
 -- Assumes nothing.
 use Rattle.spelling.proofs.Spelling.{number_put, other_put}
 use native.Mathlib.Omega.{arith}
-use borrow.Author.Rules.{rules}
 use Rattle.spelling.proofs.put.Goals as goal
 
 pub put_digits-requires : goal.put_digits-requires

@@ -1,7 +1,6 @@
 -- `spelling::put_byte` meets its contract: a byte is set where there is room.
 -- Assumes nothing.
 use Rattle.spelling.proofs.Spelling.{byte_out, byte_put}
-use borrow.Author.Rules.{rules}
 use Rattle.spelling.proofs.put_byte.Goals as goal
 
 pub returns-then-out-at : goal.returns-then-out-at

@@ -3,7 +3,6 @@
 use Rattle.spelling.specs.Says.{letters}
 use Rattle.spelling.proofs.Spelling.{sign_put}
 use native.Mathlib.Omega.{arith}
-use borrow.Author.Rules.{rules}
 use Rattle.spelling.proofs.put_sign.Goals as goal
 
 pub put_span-requires : goal.put_span-requires

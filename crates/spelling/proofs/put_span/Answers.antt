@@ -1,9 +1,7 @@
 -- `spelling::put_span` meets its contract: the bytes so far stand in the buffer.
 -- Assumes nothing.
-use Prim.Native.Nat.{◌-◌}
-use Rattle.spelling.proofs.Spelling.{Putting, putting_none, putting_more, putting_all}
+use Rattle.spelling.proofs.Spelling.{putting_none, putting_more, putting_all}
 use native.Mathlib.Omega.{arith}
-use borrow.Author.Rules.{rules}
 use Rattle.spelling.proofs.put_span.Goals as goal
 
 pub loop-i-init : goal.loop-i-init

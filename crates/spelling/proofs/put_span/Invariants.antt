@@ -1,8 +1,7 @@
 -- `spelling::put_span` meets its contract: the bytes so far stand in the buffer.
 -- Assumes nothing.
 use Prim.Native.Nat.{◌-◌}
-use Rattle.spelling.proofs.Spelling.{Putting, putting_none, putting_more, putting_all}
-use native.Mathlib.Omega.{arith}
+use Rattle.spelling.proofs.Spelling.{Putting}
 use Rattle.spelling.proofs.put_span.Given as goal
 
 abbrev pub invariant-loop-i : goal.invariant-loop-i

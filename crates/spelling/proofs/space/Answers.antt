@@ -1,7 +1,6 @@
 -- `spelling::space` meets its contract.
 -- Assumes nothing.
 use Rattle.spelling.proofs.Spelling.{space_none, space_put}
-use borrow.Author.Rules.{rules}
 use mathlib.Core.Path.{ap}
 use mathlib.Core.Bool.{not}
 use Rattle.spelling.proofs.space.Goals as goal

@@ -6,7 +6,6 @@ use Rattle.meaning.specs.Tokens.{words, signs}
 use Rattle.spelling.specs.Says.{letters}
 use Rattle.spelling.proofs.Spelling.{spans_kind, spans_rest}
 use native.Mathlib.Omega.{arith}
-use borrow.Author.Rules.{rules}
 use Rattle.spelling.proofs.span_of.Goals as goal
 
 pub returns-in-3 : goal.returns-in-3

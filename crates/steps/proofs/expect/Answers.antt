@@ -1,8 +1,6 @@
 -- `steps::expect` meets its contract.
 -- Assumes nothing.
 use Rattle.steps.proofs.Expecting.{expect_not, expect_is}
-use native.Mathlib.Omega.{arith}
-use borrow.Author.Rules.{rules}
 use Rattle.steps.proofs.expect.Goals as goal
 
 pub returns-then-kind_of-kind : goal.returns-then-kind_of-kind

@@ -2,7 +2,6 @@
 -- Assumes nothing.
 use Rattle.steps.proofs.Expecting.{number_not, number_low, number_high, number_is}
 use native.Mathlib.Omega.{arith}
-use borrow.Author.Rules.{rules}
 use borrow.Enum.Refused.{opened}
 use Rattle.steps.proofs.number_in.Goals as goal
 

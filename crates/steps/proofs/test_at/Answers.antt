@@ -2,7 +2,6 @@
 -- Assumes nothing.
 use Rattle.steps.proofs.Expecting.{test_node, test_text, test_number}
 use native.Mathlib.Omega.{arith}
-use borrow.Author.Rules.{rules}
 use Rattle.steps.proofs.test_at.Goals as goal
 
 pub returns-then-kind-eq13 : goal.returns-then-kind-eq13

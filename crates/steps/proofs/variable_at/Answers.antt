@@ -2,7 +2,6 @@
 -- Assumes nothing.
 use Rattle.steps.proofs.Expecting.{went_inside, variable_on, variable_not}
 use native.Mathlib.Omega.{arith}
-use borrow.Author.Rules.{rules}
 use Rattle.steps.proofs.variable_at.Goals as goal
 
 pub number_in-requires : goal.number_in-requires

@@ -1,7 +1,5 @@
 -- `texts::settle` meets its contract: the tables stay, or both are cleared. Assumes nothing.
 use Rattle.texts.proofs.Leaving.{written_settled, deep_settled, short_settled}
-use native.Mathlib.Omega.{arith}
-use borrow.Author.Rules.{rules}
 use Rattle.texts.proofs.settle.Goals as goal
 
 pub refuse-requires : goal.refuse-requires

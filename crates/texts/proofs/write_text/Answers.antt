@@ -1,8 +1,6 @@
 -- `texts::write_text` meets its contract: what reading refuses is refused, and what it reads is written. Assumes nothing.
 use Rattle.words.proofs.Stores.{blanked_whole}
 use Rattle.texts.proofs.Leaving.{job_long, job_ready, job_settled, job_stopped}
-use native.Mathlib.Omega.{arith}
-use borrow.Author.Rules.{rules}
 use Rattle.texts.proofs.write_text.Goals as goal
 
 pub settle-requires : goal.settle-requires

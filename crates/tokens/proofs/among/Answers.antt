@@ -1,8 +1,6 @@
 -- `tokens::among` meets its contract.
 -- Assumes nothing.
 use Rattle.tokens.proofs.Runs.{among_not, among_low}
-use native.Mathlib.Omega.{arith}
-use borrow.Author.Rules.{rules}
 use Rattle.tokens.proofs.among.Goals as goal
 
 pub returns-then-c-low : goal.returns-then-c-low

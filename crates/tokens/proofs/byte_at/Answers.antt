@@ -1,8 +1,6 @@
 -- `tokens::byte_at` meets its contract.
 -- Assumes nothing.
 use Rattle.tokens.proofs.Runs.{none_there}
-use native.Mathlib.Omega.{arith}
-use borrow.Author.Rules.{rules}
 use Rattle.tokens.proofs.byte_at.Goals as goal
 
 pub returns : goal.returns

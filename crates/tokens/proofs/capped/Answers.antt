@@ -1,7 +1,6 @@
 -- `tokens::capped` meets its contract.
 -- Assumes nothing.
 use native.Mathlib.Omega.{arith}
-use borrow.Author.Rules.{rules}
 use Rattle.tokens.proofs.capped.Goals as goal
 
 pub returns-then-n-lt65536 : goal.returns-then-n-lt65536

@@ -3,8 +3,6 @@
 use mathlib.Core.Path.{sym, ap}
 use Rattle.meaning.specs.Tokens.{is_blank}
 use Rattle.tokens.proofs.Runs.{blank_last}
-use native.Mathlib.Omega.{arith}
-use borrow.Author.Rules.{rules}
 use Rattle.tokens.proofs.is_blank.Goals as goal
 
 pub returns-then-c-eq32 : goal.returns-then-c-eq32

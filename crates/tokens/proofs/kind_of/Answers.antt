@@ -2,8 +2,6 @@
 -- Assumes nothing.
 use mathlib.Core.Path.{sym, ap}
 use Rattle.tokens.specs.Says.{kind_of}
-use native.Mathlib.Omega.{arith}
-use borrow.Author.Rules.{rules}
 use Rattle.tokens.proofs.kind_of.Goals as goal
 
 pub returns-in-End : goal.returns-in-End

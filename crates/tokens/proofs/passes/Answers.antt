@@ -3,8 +3,6 @@
 use mathlib.Core.Path.{sym, ap, ◌∙◌}
 use Rattle.tokens.specs.declared.Class.{Class}
 use Rattle.tokens.specs.Says.{test_of}
-use native.Mathlib.Omega.{arith}
-use borrow.Author.Rules.{rules}
 use Rattle.tokens.proofs.passes.Goals as goal
 
 pub returns-in-Blank : goal.returns-in-Blank

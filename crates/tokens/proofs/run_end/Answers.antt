@@ -1,12 +1,7 @@
 -- `tokens::run_end` meets its contract.
 -- Assumes nothing.
 use mathlib.Core.Path.{refl}
-use Prim.Native.Nat.{◌-◌}
-use lib.ListN.{length}
-use Rattle.tokens.specs.Says.{test_of}
-use Rattle.tokens.proofs.Runs.{Running, running_next, running_stops, running_ends}
-use native.Mathlib.Omega.{arith}
-use borrow.Author.Rules.{rules}
+use Rattle.tokens.proofs.Runs.{running_next, running_stops, running_ends}
 use mathlib.Core.Path.{ap}
 use mathlib.Core.Bool.{not}
 use Rattle.tokens.proofs.run_end.Goals as goal

@@ -1,11 +1,9 @@
 -- `tokens::run_end` meets its contract.
 -- Assumes nothing.
-use mathlib.Core.Path.{refl}
 use Prim.Native.Nat.{◌-◌}
 use lib.ListN.{length}
 use Rattle.tokens.specs.Says.{test_of}
-use Rattle.tokens.proofs.Runs.{Running, running_next, running_stops, running_ends}
-use native.Mathlib.Omega.{arith}
+use Rattle.tokens.proofs.Runs.{Running}
 use Rattle.tokens.proofs.run_end.Given as goal
 
 abbrev pub invariant-loop-i : goal.invariant-loop-i

@@ -1,10 +1,6 @@
 -- `tokens::same` meets its contract.
 -- Assumes nothing.
-use Rattle.meaning.proofs.Alike.{Alike, alike_none, alike_all, alike_not, alike_more, lengths_differ}
-use lib.ListN.{length}
-use Prim.Native.Nat.{◌-◌}
-use native.Mathlib.Omega.{arith}
-use borrow.Author.Rules.{rules}
+use Rattle.meaning.proofs.Alike.{alike_none, alike_all, alike_not, alike_more, lengths_differ}
 use Rattle.tokens.proofs.same.Goals as goal
 
 pub returns-then-a-b : goal.returns-then-a-b

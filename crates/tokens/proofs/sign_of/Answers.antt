@@ -5,7 +5,6 @@ use mathlib.Core.List.{[], ◌∷◌}
 use Rattle.meaning.specs.Tokens.{signs}
 use Rattle.tokens.proofs.Spelled.{sign_miss, sign_hit, sign_none, first_not, one_is, two_are, two_not, drawn}
 use native.Mathlib.Omega.{arith}
-use borrow.Author.Rules.{rules}
 use Rattle.tokens.proofs.sign_of.Goals as goal
 
 pub returns-then-c-eq40 : goal.returns-then-c-eq40

@@ -3,7 +3,6 @@
 use Rattle.meaning.specs.Tokens.{is_letter, is_digit}
 use Rattle.tokens.proofs.Fronts.{run_within_lem, some_left, end_tells, letters_tell, digits_are, digits_tell, sign_tells}
 use native.Mathlib.Omega.{arith}
-use borrow.Author.Rules.{rules}
 use Rattle.tokens.proofs.token_at.Goals as goal
 
 pub returns-then-place-s : goal.returns-then-place-s

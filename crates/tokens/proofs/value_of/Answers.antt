@@ -1,11 +1,8 @@
 -- `tokens::value_of` meets its contract.
 -- Assumes nothing.
 use mathlib.Core.Path.{refl}
-use Prim.Native.Nat.{◌-◌}
-use lib.ListN.{length}
-use Rattle.tokens.proofs.Decimals.{Valued, valued_next, valued_all, digit_low}
+use Rattle.tokens.proofs.Decimals.{valued_next, valued_all, digit_low}
 use native.Mathlib.Omega.{arith}
-use borrow.Author.Rules.{rules}
 use Rattle.tokens.proofs.value_of.Goals as goal
 
 pub loop-i-init : goal.loop-i-init

@@ -1,10 +1,8 @@
 -- `tokens::value_of` meets its contract.
 -- Assumes nothing.
-use mathlib.Core.Path.{refl}
 use Prim.Native.Nat.{◌-◌}
 use lib.ListN.{length}
-use Rattle.tokens.proofs.Decimals.{Valued, valued_next, valued_all, digit_low}
-use native.Mathlib.Omega.{arith}
+use Rattle.tokens.proofs.Decimals.{Valued}
 use Rattle.tokens.proofs.value_of.Given as goal
 
 abbrev pub invariant-loop-i : goal.invariant-loop-i

@@ -3,8 +3,6 @@
 use mathlib.Core.Path.{refl}
 use Rattle.meaning.specs.Tokens.{words}
 use Rattle.tokens.proofs.Spelled.{miss, hit, none_left, shown}
-use native.Mathlib.Omega.{arith}
-use borrow.Author.Rules.{rules}
 use Rattle.tokens.proofs.word_of.Goals as goal
 
 pub returns-then-same : goal.returns-then-same

@@ -1,9 +1,7 @@
 -- `truths::truth` meets its contract; parts have lower nodes, which is the measure of its calls. Assumes nothing.
-use Prim.Native.Nat.{ℕ, ◌<◌}
 use Rattle.conds.proofs.Going.{equal_low, empty_low, or_low, not_low}
 use Rattle.truths.proofs.Telling.{node_inside, told_true, told_false, told_equal, told_empty, told_not, told_left, told_right}
 use native.Mathlib.Omega.{arith}
-use borrow.Author.Rules.{rules}
 use Rattle.truths.proofs.+truth.Goals as goal
 
 pub read_cond-cond-requires : goal.read_cond-cond-requires

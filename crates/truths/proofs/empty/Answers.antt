@@ -1,7 +1,6 @@
 -- `truths::empty` meets its contract.
 -- Assumes nothing.
 use Rattle.truths.proofs.Telling.{tells_empty}
-use borrow.Author.Rules.{rules}
 use Rattle.truths.proofs.empty.Goals as goal
 
 pub returns : goal.returns

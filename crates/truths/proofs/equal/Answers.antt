@@ -3,7 +3,6 @@
 use Rattle.truths.proofs.Telling.{placed, tells_equal}
 use Rattle.spans.specs.Shows.{part}
 use native.Mathlib.Omega.{arith}
-use borrow.Author.Rules.{rules}
 use Rattle.truths.proofs.equal.Goals as goal
 
 pub overflow_mul-a : goal.overflow_mul-a

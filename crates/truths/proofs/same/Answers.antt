@@ -1,9 +1,6 @@
 -- `truths::same` meets its contract.
 -- Assumes nothing.
-use Rattle.truths.proofs.Alike.{Alike, alike_none, alike_all, alike_not, alike_more, lengths_differ}
-use lib.ListN.{length}
-use Prim.Native.Nat.{◌-◌}
-use borrow.Author.Rules.{rules}
+use Rattle.truths.proofs.Alike.{alike_none, alike_all, alike_not, alike_more, lengths_differ}
 use Rattle.truths.proofs.same.Goals as goal
 
 pub returns-then-a-b : goal.returns-then-a-b

@@ -1,6 +1,6 @@
 -- `truths::same` meets its contract.
 -- Assumes nothing.
-use Rattle.truths.proofs.Alike.{Alike, alike_none, alike_all, alike_not, alike_more, lengths_differ}
+use Rattle.truths.proofs.Alike.{Alike}
 use lib.ListN.{length}
 use Prim.Native.Nat.{◌-◌}
 use Rattle.truths.proofs.same.Given as goal

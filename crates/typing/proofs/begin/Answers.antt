@@ -3,7 +3,6 @@
 use mathlib.Core.Path.{refl}
 use Rattle.typing.proofs.Turning.{went}
 use native.Mathlib.Omega.{arith}
-use borrow.Author.Rules.{rules}
 use Rattle.typing.proofs.begin.Goals as goal
 
 pub returns : goal.returns

@@ -3,7 +3,6 @@
 use mathlib.Core.Path.{refl}
 use Rattle.typing.proofs.Turning.{turn_done, for_stops, for_done, freed_at, freed_count, freed_again, freed_begins, freed_turns, one_less}
 use native.Mathlib.Omega.{arith}
-use borrow.Author.Rules.{rules}
 use Rattle.typing.proofs.each.Goals as goal
 
 pub returns-then-k-ne0 : goal.returns-then-k-ne0

@@ -7,7 +7,6 @@ use Rattle.queries.proofs.Named.{element_low, pair_low, for_low, let_low}
 use Rattle.typing.specs.Walking as Walking
 use Rattle.typing.proofs.Onward.{goes_done, goes_first, element_first, pair_first, let_first, for_first}
 use Rattle.typing.proofs.Turning.{there}
-use borrow.Author.Rules.{rules}
 use Rattle.typing.proofs.enter.Goals as goal
 
 pub returns-in-Nothing : goal.returns-in-Nothing

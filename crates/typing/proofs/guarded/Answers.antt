@@ -2,7 +2,6 @@
 -- Assumes nothing.
 use Rattle.typing.proofs.Onward.{guard_stops, guard_passes}
 use Rattle.typing.proofs.Turning.{there}
-use borrow.Author.Rules.{rules}
 use Rattle.typing.proofs.guarded.Goals as goal
 
 pub returns-in-Refused : goal.returns-in-Refused

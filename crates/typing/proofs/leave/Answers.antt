@@ -6,7 +6,6 @@ use Rattle.queries.proofs.Named.{element_low, pair_low}
 use Rattle.typing.specs.Walking as Walking
 use Rattle.typing.proofs.Turning.{turn_done, element_done, when_done}
 use Rattle.typing.proofs.Returning.{back_low, back_kept, back_turns, back_asked, back_for, back_let, back_leaf}
-use borrow.Author.Rules.{rules}
 use Rattle.typing.proofs.leave.Goals as goal
 
 pub returns-in-Element : goal.returns-in-Element

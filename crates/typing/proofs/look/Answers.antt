@@ -7,7 +7,6 @@ use Rattle.typing.specs.Walking.{asking}
 use Rattle.typing.proofs.Onward.{goes_made, goes_when}
 use Rattle.typing.proofs.Turning.{there}
 use native.Mathlib.Omega.{arith}
-use borrow.Author.Rules.{rules}
 use Rattle.typing.proofs.look.Goals as goal
 
 pub variable-walked-requires : goal.variable-walked-requires

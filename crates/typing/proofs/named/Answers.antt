@@ -3,7 +3,6 @@
 use mathlib.Core.Path.{refl}
 use Rattle.typing.proofs.Turning.{turn_done, turn_second, let_stops, let_second, let_done, freed, freed_at, freed_bound, there, one_less}
 use native.Mathlib.Omega.{arith}
-use borrow.Author.Rules.{rules}
 use Rattle.typing.proofs.named.Goals as goal
 
 pub returns-then-k-ne0 : goal.returns-then-k-ne0

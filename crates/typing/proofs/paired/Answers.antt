@@ -3,7 +3,6 @@
 use mathlib.Core.Path.{refl}
 use Rattle.typing.proofs.Turning.{turn_done, turn_second, pair_second, pair_done, one_less}
 use native.Mathlib.Omega.{arith}
-use borrow.Author.Rules.{rules}
 use Rattle.typing.proofs.paired.Goals as goal
 
 pub returns-then-k-eq0 : goal.returns-then-k-eq0

@@ -4,7 +4,6 @@ use mathlib.Core.Path.{refl}
 use Rattle.words.proofs.Tables.{table_length}
 use Rattle.typing.proofs.Turning.{turn_done, turn_second, prime_stops, for_second, made_low, class_few, there}
 use native.Mathlib.Omega.{arith}
-use borrow.Author.Rules.{rules}
 use Rattle.typing.proofs.primed.Goals as goal
 
 pub returns-in_default : goal.returns-in_default

@@ -1,6 +1,5 @@
 -- `typing::raise` meets its contract: an entry or a refusal, as it was made.
 -- Assumes nothing.
-use borrow.Author.Rules.{rules}
 use Rattle.typing.proofs.raise.Goals as goal
 
 pub returns-in-Entry : goal.returns-in-Entry

@@ -1,7 +1,6 @@
 -- `typing::rise` meets its contract.
 -- Assumes nothing.
 use Rattle.typing.proofs.Turning.{there}
-use borrow.Author.Rules.{rules}
 use Rattle.typing.proofs.rise.Goals as goal
 
 pub returns : goal.returns

@@ -2,7 +2,6 @@
 -- Assumes nothing.
 use Rattle.typing.proofs.Returning.{back_turns, binds_for, binds_let, for_few, let_few, for_body, let_body}
 use native.Mathlib.Omega.{arith}
-use borrow.Author.Rules.{rules}
 use Rattle.typing.proofs.turn.Goals as goal
 
 pub each-requires : goal.each-requires

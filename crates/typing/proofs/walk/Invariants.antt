@@ -1,10 +1,7 @@
 -- `typing::walk` meets its contract: what is left to do, at the node or with the answer that it has come to, is the whole (`Going`).
 -- Assumes nothing.
-use mathlib.Core.Path.{refl}
 use lib.ListN.{length}
-use Rattle.typing.proofs.Onward.{enters_says}
-use Rattle.typing.proofs.Going.{Going, left, going_start, down_here, down_room, plain_down, asks_room, asks_down, up_done, up_stops, up_framed, plain_up, binds_begins, binds_room, binds_few, binds_up, at_node, at_end, at_stop, at_frame, stepped_going, stepped_less, framed_less}
-use native.Mathlib.Omega.{arith}
+use Rattle.typing.proofs.Going.{Going, left}
 use Rattle.typing.proofs.walk.Given as goal
 
 abbrev pub invariant-loop-next : goal.invariant-loop-next

@@ -2,7 +2,6 @@
 use native.Mathlib.Omega.{arith}
 use Rattle.meaning.specs.Base.{first}
 use Rattle.uses.proofs.Counts.{counted_one}
-use borrow.Author.Rules.{rules}
 use Rattle.uses.proofs.bump.Goals as goal
 
 pub bounds-counts-at : goal.bounds-counts-at

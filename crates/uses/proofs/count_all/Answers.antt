@@ -1,7 +1,5 @@
 -- `uses::count_all` meets its contract: so many nodes' uses have been counted (`Counting`); the measure is how many nodes are left. Assumes nothing.
-use Prim.Native.Nat.{◌-◌}
-use Rattle.uses.proofs.Counting.{Counting, counting_none, counting_room, counting_more, counting_all}
-use borrow.Author.Rules.{rules}
+use Rattle.uses.proofs.Counting.{counting_none, counting_room, counting_more, counting_all}
 use Rattle.uses.proofs.count_all.Goals as goal
 
 pub loop-i-init : goal.loop-i-init

@@ -1,6 +1,6 @@
 -- `uses::count_all` meets its contract: so many nodes' uses have been counted (`Counting`); the measure is how many nodes are left. Assumes nothing.
 use Prim.Native.Nat.{◌-◌}
-use Rattle.uses.proofs.Counting.{Counting, counting_none, counting_room, counting_more, counting_all}
+use Rattle.uses.proofs.Counting.{Counting}
 use Rattle.uses.proofs.count_all.Given as goal
 
 abbrev pub invariant-loop-i : goal.invariant-loop-i

@@ -1,6 +1,5 @@
 -- `uses::count_node` meets its contract: none, one, or one after the other. Assumes nothing.
 use Rattle.uses.proofs.Counts.{room_one, room_first, room_second, named_none, named_one, named_two}
-use borrow.Author.Rules.{rules}
 use Rattle.uses.proofs.count_node.Goals as goal
 
 pub bump-requires : goal.bump-requires

@@ -1,6 +1,5 @@
 -- `uses::has_root` meets its contract: no node, or the last node's kind. Assumes nothing.
 use Rattle.uses.proofs.Counting.{root_none, root_last}
-use borrow.Author.Rules.{rules}
 use Rattle.uses.proofs.has_root.Goals as goal
 
 pub returns-then-nodes-eq0 : goal.returns-then-nodes-eq0

@@ -1,13 +1,9 @@
 -- `uses::lowest_misuse` meets its contract: the lowest from here on is the lowest (`Seeking`); the measure is how many nodes are left. Assumes nothing.
-use Prim.Native.Nat.{◌-◌}
 use native.Mathlib.Omega.{arith}
 use mathlib.Core.Path.{ap}
 use mathlib.Core.Bool.{not}
-use lib.Dec.{eqb}
-use lib.ListN.{get_or}
 use borrow.Author.Tests.{eq-eqb, ne_eqb}
-use Rattle.meaning.proofs.Searches.{Seeking, seeking_none, seeking_more, seeking_here, seeking_all}
-use borrow.Author.Rules.{rules}
+use Rattle.meaning.proofs.Searches.{seeking_none, seeking_more, seeking_here, seeking_all}
 use Rattle.uses.proofs.lowest_misuse.Goals as goal
 
 pub loop-q-init : goal.loop-q-init

@@ -1,12 +1,9 @@
 -- `uses::lowest_misuse` meets its contract: the lowest from here on is the lowest (`Seeking`); the measure is how many nodes are left. Assumes nothing.
 use Prim.Native.Nat.{◌-◌}
-use native.Mathlib.Omega.{arith}
-use mathlib.Core.Path.{ap}
 use mathlib.Core.Bool.{not}
 use lib.Dec.{eqb}
 use lib.ListN.{get_or}
-use borrow.Author.Tests.{eq-eqb, ne_eqb}
-use Rattle.meaning.proofs.Searches.{Seeking, seeking_none, seeking_more, seeking_here, seeking_all}
+use Rattle.meaning.proofs.Searches.{Seeking}
 use Rattle.uses.proofs.lowest_misuse.Given as goal
 
 abbrev pub invariant-loop-q : goal.invariant-loop-q

@@ -5,7 +5,6 @@ use Rattle.meaning.specs.Kinds
 use Rattle.meaning.specs.Records.{forms}
 use Rattle.meaning.specs.Checks.{named}
 use Rattle.uses.proofs.Fields.{uses_kind, uses_nothing}
-use borrow.Author.Rules.{rules}
 use Rattle.uses.proofs.uses_of.Goals as goal
 
 pub returns-in-34 : goal.returns-in-34

@@ -1,6 +1,5 @@
 -- `values::entry_at` meets its contract: the record that is due, of kind 64 or 65, in its stretch. Assumes nothing.
 use Rattle.values.proofs.Standing.{entry_wrong, entry_other, entry_past, entry_there}
-use borrow.Author.Rules.{rules}
 use mathlib.Core.Path.{ap}
 use mathlib.Core.Bool.{not}
 use Rattle.values.proofs.entry_at.Goals as goal

@@ -1,6 +1,5 @@
 -- `values::fitting` meets its contract: the fields fit, or not. Assumes nothing.
 use Rattle.values.proofs.Standing.{unfit, fit}
-use borrow.Author.Rules.{rules}
 use mathlib.Core.Path.{ap}
 use mathlib.Core.Bool.{not}
 use Rattle.values.proofs.fitting.Goals as goal

@@ -2,7 +2,6 @@
 -- src/lib.rt:42:9
 use mathlib.Core.Path.{refl}
 use borrow.Author.Tests.{eq-eqb, ne_eqb}
-use borrow.Author.Rules.{rules}
 use Rattle.values.proofs.is_entry.Goals as goal
 
 pub returns-then-kind-eq64 : goal.returns-then-kind-eq64

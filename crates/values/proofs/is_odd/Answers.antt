@@ -1,6 +1,5 @@
 -- `values::is_odd` meets its contract: a tree variable, or not. Assumes nothing.
 use Rattle.values.proofs.Singles.{odd_tree, odd_forest}
-use borrow.Author.Rules.{rules}
 use Rattle.values.proofs.is_odd.Goals as goal
 
 pub returns-then-kind-eq17 : goal.returns-then-kind-eq17

@@ -1,6 +1,5 @@
 -- `values::keep` meets its contract: there is room, it is the first without, or not the first. Assumes nothing.
 use Rattle.values.proofs.Keeping.{keeps_one, keeps_first, keeps_still}
-use borrow.Author.Rules.{rules}
 use Rattle.values.proofs.keep.Goals as goal
 
 pub returns-then-e-room : goal.returns-then-e-room

@@ -1,7 +1,6 @@
 -- `values::load_any` meets its contract: the stack is deep enough for any. Assumes nothing.
 use native.Mathlib.Omega.{arith}
 use Rattle.values.specs.Says.{whole}
-use borrow.Author.Rules.{rules}
 use Rattle.values.proofs.load_any.Goals as goal
 
 pub load_with-requires : goal.load_with-requires

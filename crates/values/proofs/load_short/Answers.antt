@@ -1,7 +1,6 @@
 -- `values::load_short` meets its contract: the stack is deep enough for so few bytes. Assumes nothing.
 use native.Mathlib.Omega.{arith}
 use Rattle.values.specs.Says.{short}
-use borrow.Author.Rules.{rules}
 use Rattle.values.proofs.load_short.Goals as goal
 
 pub load_with-requires : goal.load_with-requires

@@ -1,7 +1,6 @@
 -- `values::load_with` meets its contract: read and settled. Assumes nothing.
 use Rattle.meaning.specs.Base.{zeros}
 use Rattle.values.proofs.Settling.{blank, fits, loads}
-use borrow.Author.Rules.{rules}
 use Rattle.values.proofs.load_with.Goals as goal
 
 pub read_values-scan-requires : goal.read_values-scan-requires

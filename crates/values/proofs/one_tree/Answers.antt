@@ -1,6 +1,5 @@
 -- `values::one_tree` meets its contract: no record, none that is right, or the first. Assumes nothing.
 use Rattle.values.proofs.Singles.{single_none, single_wrong, single_there}
-use borrow.Author.Rules.{rules}
 use Rattle.values.proofs.one_tree.Goals as goal
 
 pub returns-then-n-eq0 : goal.returns-then-n-eq0

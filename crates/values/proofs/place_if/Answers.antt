@@ -1,7 +1,6 @@
 -- `values::place_if` meets its contract. Assumes nothing.
 -- src/lib.rt:239:9
 use mathlib.Core.Path.{refl}
-use borrow.Author.Rules.{rules}
 use Rattle.values.proofs.place_if.Goals as goal
 
 pub returns-then-test : goal.returns-then-test

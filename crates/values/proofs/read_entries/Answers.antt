@@ -1,7 +1,6 @@
 -- `values::read_entries` meets its contract: the forest is wrong, or it is read. Assumes nothing.
 use native.Mathlib.Omega.{arith}
 use Rattle.values.proofs.Valuing.{forest_wrong, forest_given}
-use borrow.Author.Rules.{rules}
 use Rattle.values.proofs.read_entries.Goals as goal
 
 pub returns-in-Wrong : goal.returns-in-Wrong

@@ -1,10 +1,8 @@
 -- `values::read_forest` meets its contract: reading what is pending is reading the whole (`Going`); the measure counts each record twice, and the stretches that are open. Assumes nothing.
-use mathlib.Core.Path.{◌≡◌, refl, ◌∙◌}
-use Prim.Native.Nat.{◌+◌, ◌*◌, ◌-◌}
+use mathlib.Core.Path.{refl, ◌∙◌}
 use native.Mathlib.Omega.{arith}
-use lib.ListN.{length, set, length-set}
-use Rattle.values.proofs.Going.{Going, deep_some, depth_in, depth_low, going_starts, going_down, going_wrong, going_ends, going_on, not_all, room_above, inside_low}
-use borrow.Author.Rules.{rules}
+use lib.ListN.{set, length-set}
+use Rattle.values.proofs.Going.{deep_some, depth_in, depth_low, going_starts, going_down, going_wrong, going_ends, going_on, not_all, room_above, inside_low}
 use Rattle.values.proofs.read_forest.Goals as goal
 
 pub bounds-stack-0 : goal.bounds-stack-0

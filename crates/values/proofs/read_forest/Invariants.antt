@@ -1,9 +1,8 @@
 -- `values::read_forest` meets its contract: reading what is pending is reading the whole (`Going`); the measure counts each record twice, and the stretches that are open. Assumes nothing.
-use mathlib.Core.Path.{◌≡◌, refl, ◌∙◌}
+use mathlib.Core.Path.{◌≡◌}
 use Prim.Native.Nat.{◌+◌, ◌*◌, ◌-◌}
-use native.Mathlib.Omega.{arith}
-use lib.ListN.{length, set, length-set}
-use Rattle.values.proofs.Going.{Going, deep_some, depth_in, depth_low, going_starts, going_down, going_wrong, going_ends, going_on, not_all, room_above, inside_low}
+use lib.ListN.{length}
+use Rattle.values.proofs.Going.{Going}
 use Rattle.values.proofs.read_forest.Given as goal
 
 abbrev pub invariant-loop-depth : goal.invariant-loop-depth

@@ -1,6 +1,5 @@
 -- `values::read_value` meets its contract: the record 66 is wrong, or the forest behind it decides. Assumes nothing.
 use Rattle.values.proofs.Valuing.{value_inside, value_stops, value_gives}
-use borrow.Author.Rules.{rules}
 use Rattle.values.proofs.read_value.Goals as goal
 
 pub read_entries-requires : goal.read_entries-requires

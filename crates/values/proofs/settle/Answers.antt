@@ -2,7 +2,6 @@
 use mathlib.Core.Path.{refl}
 use Rattle.meaning.specs.Base.{zeros}
 use Rattle.values.proofs.Settling.{passed_low, stays, goes}
-use borrow.Author.Rules.{rules}
 use Rattle.values.proofs.settle.Goals as goal
 
 pub clear_behind-requires : goal.clear_behind-requires

@@ -2,7 +2,6 @@
 use mathlib.Core.Path.{ap}
 use Rattle.records.specs.Says.{rec_of}
 use Rattle.values.proofs.Standing.{value_wrong, value_there}
-use borrow.Author.Rules.{rules}
 use Rattle.values.proofs.value_at.Goals as goal
 
 pub returns-in-Cut : goal.returns-in-Cut

@@ -3,7 +3,6 @@
 use native.Mathlib.Omega.{arith}
 use Rattle.grow.proofs.Steps.{left_ready}
 use Rattle.walks.proofs.Filters.{child_stop, child_done}
-use borrow.Author.Rules.{rules}
 use Rattle.walks.proofs.child_rule.Goals as goal
 
 pub returns-in_default : goal.returns-in_default

@@ -3,7 +3,6 @@
 use native.Mathlib.Omega.{arith}
 use Rattle.words.proofs.Tables.{table_length}
 use Rattle.walks.proofs.Turns.{down_answer, down_into, down_first, first_kind}
-use borrow.Author.Rules.{rules}
 use Rattle.walks.proofs.down.Goals as goal
 
 pub returns-in-Answer : goal.returns-in-Answer

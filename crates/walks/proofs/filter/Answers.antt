@@ -2,7 +2,6 @@
 -- Assumes nothing.
 use Rattle.grow.proofs.Steps.{left_here}
 use Rattle.walks.proofs.Filters.{filter_all, filter_some}
-use borrow.Author.Rules.{rules}
 use Rattle.walks.proofs.filter.Goals as goal
 
 pub returns-then-test-eq0 : goal.returns-then-test-eq0

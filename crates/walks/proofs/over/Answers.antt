@@ -1,7 +1,6 @@
 -- `walks::over` meets its contract.
 -- Assumes nothing.
 use Rattle.walks.proofs.Turns.{over_low, over_half, over_alone, over_joined}
-use borrow.Author.Rules.{rules}
 use Rattle.walks.proofs.over.Goals as goal
 
 pub read-e-requires : goal.read-e-requires

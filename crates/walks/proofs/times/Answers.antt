@@ -3,7 +3,6 @@
 use Rattle.grow.proofs.Entries.{new_opt, new_plus, new_star}
 use Rattle.grow.proofs.Steps.{left_here}
 use Rattle.walks.proofs.Repeats.{times_opt, times_plus, times_star, times_one}
-use borrow.Author.Rules.{rules}
 use Rattle.walks.proofs.times.Goals as goal
 
 pub returns-in-2 : goal.returns-in-2

@@ -2,9 +2,7 @@
 -- Assumes nothing.
 use mathlib.Core.Path.{refl, ◌∙◌}
 use native.Mathlib.Omega.{arith}
-use lib.ListN.{length, take}
-use Rattle.walks.proofs.Going.{one_less, Going, left, going_start, down_place, down_room, down_short, down_going, down_less, up_done, up_word, up_inside, up_halved, up_room, up_second, up_second_less, up_appends, up_full, up_less, up_more, at_entry, at_end, at_frame}
-use borrow.Author.Rules.{rules}
+use Rattle.walks.proofs.Going.{one_less, going_start, down_place, down_room, down_short, down_going, down_less, up_done, up_word, up_inside, up_halved, up_room, up_second, up_second_less, up_appends, up_full, up_less, up_more, at_entry, at_end, at_frame}
 use Rattle.walks.proofs.walk.Goals as goal
 
 pub loop-next-init : goal.loop-next-init

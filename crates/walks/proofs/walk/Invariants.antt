@@ -1,9 +1,7 @@
 -- `walks::walk` meets its contract: what is left to do, at the entry or with the answer that it has come to, is the whole (`Going`).
 -- Assumes nothing.
-use mathlib.Core.Path.{refl, ◌∙◌}
-use native.Mathlib.Omega.{arith}
 use lib.ListN.{length, take}
-use Rattle.walks.proofs.Going.{one_less, Going, left, going_start, down_place, down_room, down_short, down_going, down_less, up_done, up_word, up_inside, up_halved, up_room, up_second, up_second_less, up_appends, up_full, up_less, up_more, at_entry, at_end, at_frame}
+use Rattle.walks.proofs.Going.{Going, left}
 use Rattle.walks.proofs.walk.Given as goal
 
 abbrev pub invariant-loop-next : goal.invariant-loop-next

@@ -1,10 +1,9 @@
 -- `words::clear` meets its contract.
 -- Assumes nothing.
-use Prim.Native.Nat.{◌-◌}
 use mathlib.Core.Path.{refl}
-use lib.ListN.{length, length-set}
+use lib.ListN.{length-set}
 use borrow.Author.Fill.{fill_none}
-use Rattle.words.proofs.Stores.{Cleared, cleared_more, cleared_all}
+use Rattle.words.proofs.Stores.{cleared_more, cleared_all}
 use borrow.Author.Rules.{rules}
 use Rattle.words.proofs.clear.Goals as goal
 

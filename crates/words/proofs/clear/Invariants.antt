@@ -1,10 +1,8 @@
 -- `words::clear` meets its contract.
 -- Assumes nothing.
 use Prim.Native.Nat.{◌-◌}
-use mathlib.Core.Path.{refl}
-use lib.ListN.{length, length-set}
-use borrow.Author.Fill.{fill_none}
-use Rattle.words.proofs.Stores.{Cleared, cleared_more, cleared_all}
+use lib.ListN.{length}
+use Rattle.words.proofs.Stores.{Cleared}
 use Rattle.words.proofs.clear.Given as goal
 
 abbrev pub invariant-loop-i : goal.invariant-loop-i

@@ -2,7 +2,6 @@
 -- Assumes nothing.
 use mathlib.Core.Path.{refl}
 use Rattle.words.proofs.Stores.{cleared_back}
-use borrow.Author.Rules.{rules}
 use Rattle.words.proofs.clear_behind.Goals as goal
 
 pub returns : goal.returns

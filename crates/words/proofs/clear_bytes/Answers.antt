@@ -1,8 +1,6 @@
 -- `words::clear_bytes` meets its contract.
 -- Assumes nothing.
-use Prim.Native.Nat.{◌-◌}
-use lib.ListN.{length}
-use Rattle.words.proofs.Stores.{Blanked, blanked_none, blanked_more, blanked_all}
+use Rattle.words.proofs.Stores.{blanked_none, blanked_more, blanked_all}
 use borrow.Author.Rules.{rules}
 use Rattle.words.proofs.clear_bytes.Goals as goal
 

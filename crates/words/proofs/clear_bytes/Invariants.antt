@@ -2,7 +2,7 @@
 -- Assumes nothing.
 use Prim.Native.Nat.{◌-◌}
 use lib.ListN.{length}
-use Rattle.words.proofs.Stores.{Blanked, blanked_none, blanked_more, blanked_all}
+use Rattle.words.proofs.Stores.{Blanked}
 use Rattle.words.proofs.clear_bytes.Given as goal
 
 abbrev pub invariant-loop-i : goal.invariant-loop-i

@@ -1,10 +1,9 @@
 -- `words::copy` meets its contract.
 -- Assumes nothing.
-use Prim.Native.Nat.{◌-◌}
 use mathlib.Core.Path.{refl}
-use lib.ListN.{length, length-set}
+use lib.ListN.{length-set}
 use lib.Seq.{paste-zero}
-use Rattle.words.proofs.Stores.{Copied, copied_more, copied_all}
+use Rattle.words.proofs.Stores.{copied_more, copied_all}
 use borrow.Author.Rules.{rules}
 use Rattle.words.proofs.copy.Goals as goal
 

@@ -1,10 +1,8 @@
 -- `words::copy` meets its contract.
 -- Assumes nothing.
 use Prim.Native.Nat.{◌-◌}
-use mathlib.Core.Path.{refl}
-use lib.ListN.{length, length-set}
-use lib.Seq.{paste-zero}
-use Rattle.words.proofs.Stores.{Copied, copied_more, copied_all}
+use lib.ListN.{length}
+use Rattle.words.proofs.Stores.{Copied}
 use Rattle.words.proofs.copy.Given as goal
 
 abbrev pub invariant-loop-i : goal.invariant-loop-i

@@ -1,6 +1,5 @@
 -- `words::is_condition` meets its contract: the kinds 48 to 53. Assumes nothing.
 use Rattle.words.proofs.Tests.{not_condition, condition_kind}
-use borrow.Author.Rules.{rules}
 use Rattle.words.proofs.is_condition.Goals as goal
 
 pub returns-then-kind-lt48 : goal.returns-then-kind-lt48

@@ -1,6 +1,5 @@
 -- `words::is_labelled` meets its contract.
 -- Assumes nothing.
-use borrow.Author.Rules.{rules}
 use Rattle.words.proofs.is_labelled.Goals as goal
 
 pub returns-in-Label : goal.returns-in-Label

@@ -1,7 +1,6 @@
 -- `words::passes` meets its contract.
 -- Assumes nothing.
 use Rattle.words.proofs.Tests.{passes_all, passes_text, passes_label}
-use borrow.Author.Rules.{rules}
 use Rattle.words.proofs.passes.Goals as goal
 
 pub returns-in-0 : goal.returns-in-0

@@ -3,7 +3,6 @@
 use native.Mathlib.Omega.{arith}
 use lib.ListN.{length-set}
 use Rattle.words.proofs.Stores.{stored_four}
-use borrow.Author.Rules.{rules}
 use Rattle.words.proofs.put_node.Goals as goal
 
 pub bounds-t-at-2 : goal.bounds-t-at-2

@@ -4,7 +4,6 @@ use native.Mathlib.Omega.{arith}
 use lib.ListN.{length-set}
 use Rattle.words.proofs.Stores.{stored_two}
 use Rattle.meaning.specs.Base.{bytes_of}
-use borrow.Author.Rules.{rules}
 use Rattle.words.proofs.put_word.Goals as goal
 
 pub bounds-t-at-2 : goal.bounds-t-at-2

@@ -2,7 +2,6 @@
 -- Assumes nothing.
 use native.Mathlib.Omega.{arith}
 use Prim.Native.Nat.{◌+◌}
-use borrow.Author.Rules.{rules}
 use Rattle.words.proofs.word.Goals as goal
 
 pub overflow_cast-result : goal.overflow_cast-result

@@ -2,7 +2,6 @@
 -- Assumes nothing.
 use Rattle.written.proofs.Lows.{inside_shut, inside_more, inside_far}
 use native.Mathlib.Omega.{arith}
-use borrow.Author.Rules.{rules}
 use mathlib.Core.Path.{ap}
 use mathlib.Core.Bool.{not}
 use Rattle.written.proofs.deeper.Goals as goal

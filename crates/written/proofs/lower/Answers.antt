@@ -1,7 +1,6 @@
 -- `written::lower` meets its contract.
 -- Assumes nothing.
 use Rattle.written.proofs.Lows.{low_kept, low_new, low_first}
-use borrow.Author.Rules.{rules}
 use Rattle.written.proofs.lower.Goals as goal
 
 pub returns-then-n-node : goal.returns-then-n-node

@@ -2,7 +2,6 @@
 -- Assumes nothing.
 use Rattle.words.specs.Says.{found}
 use Rattle.written.proofs.Lows.{note_shut, note_low, note_deep}
-use borrow.Author.Rules.{rules}
 use mathlib.Core.Path.{ap}
 use mathlib.Core.Bool.{not}
 use Rattle.written.proofs.note.Goals as goal

@@ -2,7 +2,6 @@
 -- Assumes nothing.
 use mathlib.Core.Bool.{◌&&◌, ◌||◌}
 use Rattle.written.proofs.Laying.{next_room, next_put}
-use borrow.Author.Rules.{rules}
 use Rattle.written.proofs.put_next.Goals as goal
 
 pub put-requires : goal.put-requires

@@ -1,9 +1,8 @@
 -- `written::walk` meets its contract: what is in the buffer with what is left on the stack is the text. What is left weighs less at each turn.
 -- Assumes nothing.
 use mathlib.Core.Path.{refl, ◌∙◌}
-use Rattle.written.proofs.Turns.{Walking, measure, walking_none, walking_all, top_inside, at_small, piece_turn, piece_less, node_low, node_room, node_turn, node_less}
+use Rattle.written.proofs.Turns.{walking_none, walking_all, top_inside, at_small, piece_turn, piece_less, node_low, node_room, node_turn, node_less}
 use native.Mathlib.Omega.{arith}
-use borrow.Author.Rules.{rules}
 use Rattle.written.proofs.walk.Goals as goal
 
 pub overflow_sub-nodes : goal.overflow_sub-nodes

@@ -1,8 +1,6 @@
 -- `written::walk` meets its contract: what is in the buffer with what is left on the stack is the text. What is left weighs less at each turn.
 -- Assumes nothing.
-use mathlib.Core.Path.{refl, ◌∙◌}
-use Rattle.written.proofs.Turns.{Walking, measure, walking_none, walking_all, top_inside, at_small, piece_turn, piece_less, node_low, node_room, node_turn, node_less}
-use native.Mathlib.Omega.{arith}
+use Rattle.written.proofs.Turns.{Walking, measure}
 use Rattle.written.proofs.walk.Given as goal
 
 abbrev pub invariant-loop-top : goal.invariant-loop-top

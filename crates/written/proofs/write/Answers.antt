@@ -1,7 +1,6 @@
 -- `written::write` meets its contract: with a stack of its own.
 -- Assumes nothing.
 use native.Mathlib.Omega.{arith}
-use borrow.Author.Rules.{rules}
 use Rattle.written.proofs.write.Goals as goal
 
 pub write_with-requires : goal.write_with-requires

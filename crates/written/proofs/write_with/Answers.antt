@@ -1,7 +1,6 @@
 -- `written::write_with` meets its contract: what the walk tells, 23 first.
 -- Assumes nothing.
 use Rattle.written.proofs.Leaving.{left_deep, left_short, left_written}
-use borrow.Author.Rules.{rules}
 use Rattle.written.proofs.write_with.Goals as goal
 
 pub returns-in-At : goal.returns-in-At

@@ -2,7 +2,6 @@
 -- Assumes nothing.
 use mathlib.Core.Path.{ap}
 use Rattle.scope.specs.Shows.{bound}
-use borrow.Author.Rules.{rules}
 use Rattle.scope.proofs.Scope.bind.Goals as goal
 
 pub returns : goal.returns
