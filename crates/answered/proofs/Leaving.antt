@@ -15,7 +15,6 @@ use Rattle.words.proofs.Rows.{padded_most}
 use Rattle.words.proofs.Tables.{table_inside, table_cleared, code_inside, code_cleared}
 use Rattle.reading.specs.declared.Given.{Given}
 use Rattle.answers.specs.declared.Written.{Written}
-use Rattle.answers.specs.declared.Written.TheVariants as Written
 use Rattle.answers.specs.Says as Writes
 use Rattle.answers.specs.Says.{Ready}
 use Rattle.answers.proofs.Back.{Fitted, fits, short, fitted_is, file_of, job_answered_lem}
@@ -24,7 +23,7 @@ use Rattle.typed.specs.declared.Typed.{Typed}
 use Rattle.typed.specs.Says as Types
 use Rattle.typed.specs.Says.{Holds}
 use Rattle.typed.proofs.Telling.{holds_table, holds_defs, told_accepted, told_refused}
-use Rattle.answered.specs.declared.Answer.TheVariants.{Accepted, Refused}
+use Rattle.answered.specs.declared.Answer.TheVariants.{Accepted}
 use Rattle.answered.specs.declared.Answered.{Answered}
 use Rattle.answered.specs.Says.{answered_of, Left, Settled}
 

@@ -11,7 +11,7 @@ use Rattle.meaning.specs.Answers as Answers
 use Rattle.meaning.specs.Answers.{answer_job, full, packed}
 use Rattle.meaning.proofs.Ends.{Ends, gives, stops, ends_by, ends_bind}
 use Rattle.meaning.proofs.Jobs.{Listed, TypedWell, type_refuses}
-use Rattle.meaning.proofs.Reading.{Small, caps_of_small}
+use Rattle.meaning.proofs.Reading.{caps_of_small}
 use Rattle.meaning.proofs.FileLength.{file_short}
 use Rattle.answers.proofs.Back.{Fitted, fits, short, fitted_is, file_of}
 use Rattle.answered.specs.declared.Answered.{Answered}

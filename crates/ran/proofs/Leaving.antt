@@ -25,7 +25,6 @@ use Rattle.typed.specs.Says as Types
 use Rattle.typed.specs.Says.{Holds}
 use Rattle.typed.proofs.Telling.{holds_vars, holds_code, Accepts, told_accepted, told_refused}
 use Rattle.copies.specs.declared.Made.{Made}
-use Rattle.copies.specs.declared.Made.TheVariants as Made
 use Rattle.copies.proofs.Filling.{differ}
 use Rattle.values.specs.declared.Answer.TheVariants as Load
 use Rattle.values.specs.declared.Loaded.{Loaded}
@@ -33,7 +32,7 @@ use Rattle.values.specs.Says as Values
 use Rattle.values.specs.Says.{loaded_of}
 use Rattle.values.proofs.Loading as Loading
 use Rattle.values.proofs.Loading.{turned_away, load_declared, load_fits}
-use Rattle.ran.specs.declared.Answer.TheVariants.{Accepted, Refused}
+use Rattle.ran.specs.declared.Answer.TheVariants.{Accepted}
 use Rattle.ran.specs.declared.Ran.{Ran}
 use Rattle.ran.specs.Says as Says
 use Rattle.ran.specs.Says.{ran_of, Left, Loads, Ready, Begins, Evaluated, Evaluates, Settles, running, Answers}

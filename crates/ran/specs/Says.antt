@@ -18,7 +18,6 @@ use Rattle.typed.specs.Says.{Holds}
 use Rattle.spans.specs.Shows.{Shows, Inside}
 use Rattle.spans.specs.declared.Spans.{Spans}
 use Rattle.copies.specs.declared.Made.{Made}
-use Rattle.copies.specs.declared.Made.TheVariants as Made
 use Rattle.values.specs.Says.{ends_of}
 use Rattle.ran.specs.declared.Answer.TheVariants.{Accepted, Refused}
 use Rattle.ran.specs.declared.Ran.{Ran}

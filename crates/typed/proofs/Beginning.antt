@@ -29,7 +29,6 @@ use Rattle.jobs.proofs.Checking.{held_stored}
 use Rattle.classes.specs.Classes.{Filled}
 use Rattle.grow.specs.Grow.{After}
 use Rattle.grow.specs.declared.Made.{Made}
-use Rattle.grow.specs.declared.Made.TheVariants as Made
 use Rattle.grow.proofs.Tables.{lent_of}
 use Rattle.leaves.specs.Walk.{Within}
 use Rattle.typing.specs.Walking.{Here, Typed}

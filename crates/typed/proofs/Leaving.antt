@@ -20,7 +20,6 @@ use Rattle.jobs.specs.Says as Jobs
 use Rattle.jobs.specs.Says.{job_of}
 use Rattle.jobs.proofs.Checking.{held_stored}
 use Rattle.grow.specs.declared.Made.{Made}
-use Rattle.grow.specs.declared.Made.TheVariants as Made
 use Rattle.leaves.specs.Walk.{tabled, walked}
 use Rattle.typed.specs.declared.Answer.TheVariants.{Accepted}
 use Rattle.typed.specs.declared.Typed.{Typed}

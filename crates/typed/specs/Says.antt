@@ -14,7 +14,6 @@ use Rattle.reading.specs.declared.Given.{Given}
 use Rattle.reading.specs.Says.{given_of, nothing_given, Held}
 use Rattle.grow.specs.Grow.{Lent, answer_of}
 use Rattle.grow.specs.declared.Made.{Made}
-use Rattle.grow.specs.declared.Made.TheVariants as Made
 use Rattle.leaves.specs.Walk.{walked}
 use Rattle.typed.specs.declared.Answer.TheVariants.{Accepted, Refused}
 use Rattle.typed.specs.declared.Typed.{Typed}

@@ -1,7 +1,6 @@
 -- `answered::answer_job` meets its contract: what typing refuses is refused, and what it types is written. Assumes nothing.
 use Rattle.words.proofs.Stores.{blanked_whole}
 use Rattle.answered.proofs.Leaving.{job_ready, job_long, job_settled, job_stopped}
-use borrow.Author.Rules.{rules}
 use Rattle.answered.proofs.answer_job.Goals as goal
 
 pub settle-requires : goal.settle-requires

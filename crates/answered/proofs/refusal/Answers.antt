@@ -1,6 +1,5 @@
 -- `answered::refusal` meets its contract: by what the answer to a refusal is. Assumes nothing.
 use Rattle.answered.specs.Says.{answered_of}
-use borrow.Author.Rules.{rules}
 use Rattle.answered.proofs.refusal.Goals as goal
 
 pub returns : goal.returns

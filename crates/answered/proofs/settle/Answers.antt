@@ -1,6 +1,5 @@
 -- `answered::settle` meets its contract: the tables stay, or both are cleared. Assumes nothing.
 use Rattle.answered.proofs.Leaving.{written_settled, short_settled}
-use borrow.Author.Rules.{rules}
 use Rattle.answered.proofs.settle.Goals as goal
 
 pub clear_entries-requires : goal.clear_entries-requires

@@ -1,6 +1,5 @@
 -- `emberstitch::emberstitch_answer` meets its contract: the tables have full capacity, and the number is the answer's. Assumes nothing.
 use Rattle.emberstitch.proofs.Calls.{job_small, job_called}
-use borrow.Author.Rules.{rules}
 use Rattle.emberstitch.proofs.emberstitch_answer.Goals as goal
 
 pub number_of-requires : goal.number_of-requires

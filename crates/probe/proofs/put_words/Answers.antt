@@ -1,10 +1,7 @@
 -- `probe::put_words` is safe and ends. The loop's invariant: what is lent keeps its length; the measure is what is left of the words.
 -- Assumes nothing.
-use mathlib.Core.Path.{◌≡◌, refl}
-use Prim.Native.Nat.{◌-◌}
+use mathlib.Core.Path.{refl}
 use native.Mathlib.Omega.{arith}
-use lib.ListN.{length}
-use borrow.Author.Rules.{rules}
 use Rattle.probe.proofs.put_words.Goals as goal
 
 pub loop-i-init : goal.loop-i-init

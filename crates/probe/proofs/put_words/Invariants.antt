@@ -1,8 +1,7 @@
 -- `probe::put_words` is safe and ends. The loop's invariant: what is lent keeps its length; the measure is what is left of the words.
 -- Assumes nothing.
-use mathlib.Core.Path.{◌≡◌, refl}
+use mathlib.Core.Path.{◌≡◌}
 use Prim.Native.Nat.{◌-◌}
-use native.Mathlib.Omega.{arith}
 use lib.ListN.{length}
 use Rattle.probe.proofs.put_words.Given as goal
 

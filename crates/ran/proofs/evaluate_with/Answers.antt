@@ -2,7 +2,6 @@
 use mathlib.Core.Path.{◌∙◌}
 use Rattle.ran.proofs.Evaluating.{loaded_within, eval_ready, eval_leaves}
 use native.Mathlib.Omega.{arith}
-use borrow.Author.Rules.{rules}
 use Rattle.ran.proofs.evaluate_with.Goals as goal
 
 pub hold-requires : goal.hold-requires

@@ -1,6 +1,5 @@
 -- `ran::refusal` meets its contract: by what the answer to a refusal is. Assumes nothing.
 use Rattle.ran.specs.Says.{ran_of}
-use borrow.Author.Rules.{rules}
 use Rattle.ran.proofs.refusal.Goals as goal
 
 pub returns : goal.returns

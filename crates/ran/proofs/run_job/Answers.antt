@@ -1,6 +1,5 @@
 -- `ran::run_job` meets its contract: what typing refuses is refused, and what it types is run. Assumes nothing.
 use Rattle.ran.proofs.Leaving.{job_ready, job_long, job_settled, job_stopped}
-use borrow.Author.Rules.{rules}
 use Rattle.ran.proofs.run_job.Goals as goal
 
 pub run_typed-requires : goal.run_typed-requires

@@ -1,7 +1,6 @@
 -- `ran::run_typed` meets its contract: what the loader refuses is refused, and what it loads is evaluated. Assumes nothing.
 use mathlib.Core.Path.{◌∙◌}
 use Rattle.ran.proofs.Leaving.{few_vars, load_begins, load_settled, load_stopped}
-use borrow.Author.Rules.{rules}
 use Rattle.ran.proofs.run_typed.Goals as goal
 
 pub load-loaded-requires : goal.load-loaded-requires

@@ -1,6 +1,5 @@
 -- `ran::settle` meets its contract: the tables stay, or all are cleared. Assumes nothing.
 use Rattle.ran.proofs.Leaving.{done_settles, full_settles}
-use borrow.Author.Rules.{rules}
 use Rattle.ran.proofs.settle.Goals as goal
 
 pub returns-in-Done : goal.returns-in-Done

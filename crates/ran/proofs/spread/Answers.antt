@@ -1,10 +1,6 @@
 -- `ran::spread` meets its contract: the variables are bound from the last to the first. Assumes nothing.
 use mathlib.Core.Path.{refl}
-use Prim.Native.Nat.{◌≤◌}
-use Rattle.words.specs.Tables.{vars_of}
-use Rattle.spans.specs.Shows.{scope}
-use Rattle.ran.proofs.Spreading.{From, from_none, from_all, turn_low, turn_from}
-use native.Mathlib.Omega.{arith}
+use Rattle.ran.proofs.Spreading.{from_none, from_all, turn_low, turn_from}
 use borrow.Author.Rules.{rules}
 use Rattle.ran.proofs.spread.Goals as goal
 

@@ -1,6 +1,5 @@
 -- `typed::refusal` meets its contract: by what the answer to a refusal is. Assumes nothing.
 use Rattle.typed.specs.Says.{typed_of}
-use borrow.Author.Rules.{rules}
 use Rattle.typed.proofs.refusal.Goals as goal
 
 pub returns : goal.returns

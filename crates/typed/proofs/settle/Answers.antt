@@ -1,6 +1,5 @@
 -- `typed::settle` meets its contract: the walk answered an entry and the tables stay, or both are cleared. Assumes nothing.
 use Rattle.typed.proofs.Leaving.{kept_settled, cleared_settled}
-use borrow.Author.Rules.{rules}
 use Rattle.typed.proofs.settle.Goals as goal
 
 pub returns-in-Entry : goal.returns-in-Entry

@@ -1,7 +1,6 @@
 -- `typed::type_job` meets its contract: what reading refuses is refused, and what it accepts is typed. Assumes nothing.
 use Rattle.typed.proofs.Beginning.{job_ready}
 use Rattle.typed.proofs.Leaving.{job_accepted, job_typed_lem, job_stopped}
-use borrow.Author.Rules.{rules}
 use Rattle.typed.proofs.type_job.Goals as goal
 
 pub type_tables-requires : goal.type_tables-requires

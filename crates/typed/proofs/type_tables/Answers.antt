@@ -1,6 +1,5 @@
 -- `typed::type_tables` meets its contract: the walk, and what is left after it. Assumes nothing.
 use Rattle.typed.proofs.Leaving.{walk_settled}
-use borrow.Author.Rules.{rules}
 use Rattle.typed.proofs.type_tables.Goals as goal
 
 pub returns : goal.returns
