@@ -34,20 +34,20 @@ abbrev pub job_read : List ℕ → ℕ → ℕ → Out Tables
 job_read job types query = read_job (caps_of types query) job
 
 -- READING A JOB: the answer is 01's; accepted, the tables have the entries and the nodes, then zeros; refused, they are zero
-pub record ReadJob (job : List ℕ) (types query : ℕ) (r : Job) (typesLeft queryLeft : List ℕ) : Type 0 where
+pub record ReadJob (job : List ℕ) (types query : ℕ) (r : Job) (types_after query_after : List ℕ) : Type 0 where
   pub answer : r ≡ job_of (job_read job types query)
-  pub types_left : typesLeft ≡ read_types types (job_read job types query)
-  pub query_left : queryLeft ≡ read_code query (job_read job types query)
+  pub types_left : types_after ≡ read_types types (job_read job types query)
+  pub query_left : query_after ≡ read_code query (job_read job types query)
 
 -- what typing gives for them
 abbrev pub job_typed : List ℕ → ℕ → ℕ → Out Typing.Typed
 job_typed job types query = type_job (caps_of types query) job
 
 -- TYPING A JOB: the answer is 01's; accepted, the tables have the entries as typing leaves them and the nodes, then zeros; refused, they are zero
-pub record TypeJob (job : List ℕ) (types query : ℕ) (r : Typed) (typesLeft queryLeft : List ℕ) : Type 0 where
+pub record TypeJob (job : List ℕ) (types query : ℕ) (r : Typed) (types_after query_after : List ℕ) : Type 0 where
   pub answer : r ≡ typed_of (job_typed job types query)
-  pub types_left : typesLeft ≡ typed_types types (job_typed job types query)
-  pub query_left : queryLeft ≡ typed_code query (job_typed job types query)
+  pub types_left : types_after ≡ typed_types types (job_typed job types query)
+  pub query_left : query_after ≡ typed_code query (job_typed job types query)
 
 -- what answering gives for them, with a buffer of so many bytes
 abbrev pub job_answered : List ℕ → ℕ → ℕ → ℕ → Out Answers.Answered
@@ -55,20 +55,20 @@ job_answered job types query bytes = answer_job (caps_of types query) bytes job
 
 -- ANSWERING A JOB: the answer is 01's; accepted, the tables are as typing leaves them and the buffer has the answer file, then zeros; refused, all are
 -- zero
-pub record AnswerJob (job : List ℕ) (types query bytes : ℕ) (r : Answered) (typesLeft queryLeft answerLeft : List ℕ) : Type 0 where
+pub record AnswerJob (job : List ℕ) (types query bytes : ℕ) (r : Answered) (types_after query_after answer_after : List ℕ) : Type 0 where
   pub answer : r ≡ answered_of (job_answered job types query bytes)
-  pub types_left : typesLeft ≡ typed_types types (Answers.typed_of (job_answered job types query bytes))
-  pub query_left : queryLeft ≡ typed_code query (Answers.typed_of (job_answered job types query bytes))
-  pub answer_left : answerLeft ≡ answer_bytes bytes (job_answered job types query bytes)
+  pub types_left : types_after ≡ typed_types types (Answers.typed_of (job_answered job types query bytes))
+  pub query_left : query_after ≡ typed_code query (Answers.typed_of (job_answered job types query bytes))
+  pub answer_left : answer_after ≡ answer_bytes bytes (job_answered job types query bytes)
 
 -- what reading an answer file gives, with a type table of so many words; such a file has no query
 abbrev pub file_read : List ℕ → ℕ → Out Answers.Back
 file_read file types = read_answer (caps_of types 0) file
 
 -- READING AN ANSWER FILE: the answer is 01's; accepted, the table has the entries, then zeros; refused, it is zero
-pub record ReadAnswer (file : List ℕ) (types : ℕ) (r : Back) (typesLeft : List ℕ) : Type 0 where
+pub record ReadAnswer (file : List ℕ) (types : ℕ) (r : Back) (types_after : List ℕ) : Type 0 where
   pub answer : r ≡ back_of (file_read file types)
-  pub types_left : typesLeft ≡ read_types types (back_tables (file_read file types))
+  pub types_left : types_after ≡ read_types types (back_tables (file_read file types))
 
 -- what running gives for them on these values, with a work table of so many words
 abbrev pub job_ran : List ℕ → List ℕ → ℕ → ℕ → ℕ → Out Running.Ran
@@ -76,33 +76,33 @@ job_ran job values types query work = run_job (caps_of types query) (work_capaci
 
 -- RUNNING A JOB: the answer is 01's; accepted, the type and query tables are as typing leaves them and the work table has the values, the result, then
 -- zeros; refused, all are zero
-pub record RunJob (job values : List ℕ) (types query work : ℕ) (r : Ran) (typesLeft queryLeft workLeft : List ℕ) : Type 0 where
+pub record RunJob (job values : List ℕ) (types query work : ℕ) (r : Ran) (types_after query_after work_after : List ℕ) : Type 0 where
   pub answer : r ≡ ran_of (job_ran job values types query work)
-  pub types_left : typesLeft ≡ typed_types types (ran_typed (job_ran job values types query work))
-  pub query_left : queryLeft ≡ typed_code query (ran_typed (job_ran job values types query work))
-  pub work_left : workLeft ≡ work_words work (job_ran job values types query work)
+  pub types_left : types_after ≡ typed_types types (ran_typed (job_ran job values types query work))
+  pub query_left : query_after ≡ typed_code query (ran_typed (job_ran job values types query work))
+  pub work_left : work_after ≡ work_words work (job_ran job values types query work)
 
 -- PARSING A TEXT: the answer is the request's; accepted, the buffer has the query section, then zeros; refused, it is zero
-pub record ParseText (text : List ℕ) (bytes : ℕ) (r : Parsed) (sectionLeft : List ℕ) : Type 0 where
+pub record ParseText (text : List ℕ) (bytes : ℕ) (r : Parsed) (section_after : List ℕ) : Type 0 where
   pub answer : r ≡ parsed_of (parse_text bytes text)
-  pub section_left : sectionLeft ≡ lent bytes (λ (section : List ℕ). section) (parse_text bytes text)
+  pub section_left : section_after ≡ lent bytes (λ (section : List ℕ). section) (parse_text bytes text)
 
 -- what writing a job's query gives, with tables of so many words and a buffer of so many bytes
 abbrev pub job_written : List ℕ → ℕ → ℕ → ℕ → Out Spoken
 job_written job types query bytes = write_text (caps_of types query) bytes job
 
 -- WRITING A TEXT: the answer is the request's; accepted, the tables are as reading leaves them and the buffer has the text, then zeros; refused, all are zero
-pub record WriteText (job : List ℕ) (types query bytes : ℕ) (r : Texts.Answer) (typesLeft queryLeft textLeft : List ℕ) : Type 0 where
+pub record WriteText (job : List ℕ) (types query bytes : ℕ) (r : Texts.Answer) (types_after query_after text_after : List ℕ) : Type 0 where
   pub answer : r ≡ answer_of (job_written job types query bytes)
-  pub types_left : typesLeft ≡ read_types types (spoken_of (job_written job types query bytes))
-  pub query_left : queryLeft ≡ read_code query (spoken_of (job_written job types query bytes))
-  pub text_left : textLeft ≡ text_bytes bytes (job_written job types query bytes)
+  pub types_left : types_after ≡ read_types types (spoken_of (job_written job types query bytes))
+  pub query_left : query_after ≡ read_code query (spoken_of (job_written job types query bytes))
+  pub text_left : text_after ≡ text_bytes bytes (job_written job types query bytes)
 
 -- THE C CALL: the number is 01's, "the answer's length or 2^32 times the refusal plus the place", of answering at full capacity; accepted, the buffer
 -- has the answer file, then zeros; refused, it is zero
-pub record Call (job : List ℕ) (bytes r : ℕ) (answerLeft : List ℕ) : Type 0 where
+pub record Call (job : List ℕ) (bytes r : ℕ) (answer_after : List ℕ) : Type 0 where
   pub number : r ≡ packed (answer_job full bytes job)
-  pub answer_left : answerLeft ≡ answer_bytes bytes (answer_job full bytes job)
+  pub answer_left : answer_after ≡ answer_bytes bytes (answer_job full bytes job)
 
 -- the number of an answer, and when it fits 64 bits
 abbrev pub number_of : Answer → ℕ

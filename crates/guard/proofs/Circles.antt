@@ -28,10 +28,10 @@ same_test false true f g = never (g refl)
 same_test false false f g = refl
 
 -- past the end there is nothing
-get_d_past : (D : Defs) (d : ℕ) → length D ≤ d → get_or D d 0 ≡ 0
-get_d_past [] d h = refl
-get_d_past (c ∷ D) zero h = absurd (omega arith)
-get_d_past (c ∷ D) (suc d) h = get_d_past D d (omega arith)
+get_or_past : (D : Defs) (d : ℕ) → length D ≤ d → get_or D d 0 ≡ 0
+get_or_past [] d h = refl
+get_or_past (c ∷ D) zero h = absurd (omega arith)
+get_or_past (c ∷ D) (suc d) h = get_or_past D d (omega arith)
 
 -- why an entry's set has a definition: it is a name of it, or a part's set has it
 data Has (n : ℕ) (D : Defs) (masks : List ℕ) (x : Entry) (d : ℕ) : Type 0 where
@@ -95,7 +95,7 @@ module _ (D : Defs) (T : Table) (laid : Laid T) (defined : (d : ℕ) → d < len
   unfolding set_of
   covered_name d m k c j b (yes l) = (closed.closed d j k).1 (Sets.on l ((closed.closed d m k).0 c) (Sets.one (own m j l ∙ b)))
   covered_name d m k c j b (no l) =
-      let z = get_d_past D m (omega arith) in
+      let z = get_or_past D m (omega arith) in
       nothing j (rw (z, filled.filled 0 (at_low zeroth), at_get_or zeroth Types.empty) at b)
 
   covered_step : (d : ℕ) (x : Entry) (y : ℕ) → d < length D → Covered d x → In y (steps_of false D x) → (j : ℕ) → bit_at masks y j ≡ true → bit_at reach d j ≡ true

@@ -32,13 +32,13 @@ low_of (y ∷ l) (suc n) x p = omega (arith, low_of l n x p)
 pub at_low : {A : Type 0} {l : List A} {n : ℕ} {x : A} → At l n x → n < length l
 at_low {l = l} {n = n} {x = x} p = low_of l n x p.is
 
-get_d_of : {A : Type 0} (l : List A) (n : ℕ) (x z : A) → get_elem? l n ≡ some x → get_or l n z ≡ x
-get_d_of [] n x z p = absurd_option p
-get_d_of (y ∷ l) zero x z p = cc
-get_d_of (y ∷ l) (suc n) x z p = get_d_of l n x z p
+get_or_of : {A : Type 0} (l : List A) (n : ℕ) (x z : A) → get_elem? l n ≡ some x → get_or l n z ≡ x
+get_or_of [] n x z p = absurd_option p
+get_or_of (y ∷ l) zero x z p = cc
+get_or_of (y ∷ l) (suc n) x z p = get_or_of l n x z p
 
 pub at_get_or : {A : Type 0} {l : List A} {n : ℕ} {x : A} → At l n x → (z : A) → get_or l n z ≡ x
-at_get_or {l = l} {n = n} {x = x} p z = get_d_of l n x z p.is
+at_get_or {l = l} {n = n} {x = x} p z = get_or_of l n x z p.is
 
 some_of : {A : Type 0} (l : List A) (n : ℕ) (z : A) → n < length l → get_elem? l n ≡ some (get_or l n z)
 some_of [] n z p = absurd (omega arith)

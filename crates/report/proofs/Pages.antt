@@ -8,11 +8,11 @@ use Rattle.meaning.specs.Base.{type_width}
 use Rattle.report.specs.Text.{entry_line, entry_lines, stretch_lines}
 use Rattle.report.specs.Pages.{IsPrefixLen, Printed}
 
-pub length-take_of_le : (n : ℕ) (xs : List ℕ) → n ≤ length xs → n ≡ length (take n xs)
-length-take_of_le n xs h = sym (length-take-le n xs h)
+pub length_take_of_le : (n : ℕ) (xs : List ℕ) → n ≤ length xs → n ≡ length (take n xs)
+length_take_of_le n xs h = sym (length-take-le n xs h)
 
 pub prefix_len_of_le : (n : ℕ) (xs : List ℕ) → n ≤ length xs → IsPrefixLen n xs
-prefix_len_of_le n xs h = (h, length-take_of_le n xs h)
+prefix_len_of_le n xs h = (h, length_take_of_le n xs h)
 
 -- NOTHING IS PRINTED YET
 pub none_printed : (contents : Option (List ℕ)) (page table : List ℕ) (first n : ℕ) → n ≡ 0 → Printed contents contents page (entry_lines table first n) 0

@@ -118,7 +118,7 @@ module _ {s : Spans} {held rest : List ℕ} {at : ℕ} (b : Begins s held rest a
 
   -- LET AND FOR: a source, held, and what follows it, moved down
   module _ (p whole : Query) (rule : Forest → ℕ → Env → ℕ → Out Forest) {us after : List ℕ} {source : Step} (w : Evaluates s held after (length rest) us at source (valued p)) where
-    module _ {k : ℕ} (e : source.made ≡ Made.Done k) (long : length after ≡ length held) (us-long : length us ≡ length rest) {final : List ℕ} (put : final ≡ stored after (3 * at) (take (3 * k) us)) (as_long : length final ≡ length after) where
+    module _ {k : ℕ} (e : source.made ≡ Made.Done k) (long : length after ≡ length held) (us_long : length us ≡ length rest) {final : List ℕ} (put : final ≡ stored after (3 * at) (take (3 * k) us)) (as_long : length final ≡ length after) where
       pub bound_leaves : ((top : ℕ) (env : Env) (f : Forest) → eval top p env at ≡ ok f → size f ≡ k → eval top whole env at ≡ rule f top env (at + k))
           → {last vs xs : List ℕ} {m : ℕ} {t : Spans} → ((f : Forest) → part final at (at + k) ≡ forest_words f → Evaluates source.scope final last (length (drop (3 * k) us)) vs (at + k) (record { made = Made.Done m; scope = t }) (rule f))
           → length vs ≡ length (drop (3 * k) us) → Moves (take (3 * k) us ++ vs) xs k m
@@ -126,14 +126,14 @@ module _ {s : Spans} {held rest : List ℕ} {at : ℕ} (b : Begins s held rest a
       bound_leaves law {vs = vs} v n z =
           let x = behind_held w e long put as_long in
           let a = among_held w e long put as_long in
-          let fits : 3 * k ≤ length us = omega (arith, x.fits, us-long) in
+          let fits : 3 * k ≤ length us = omega (arith, x.fits, us_long) in
           record {
             kept = behind_kept x (v a.forest a.is);
             below = behind_below x (v a.forest a.is);
             is = λ env h.
                 let i = left_done e (w.is env h) in
                 left_as (law (at + length rest / 3) env i.forest i.is i.filled.count)
-                (left_move k (over_length (3 * k) us vs fits n ∙ us-long) (over_drop (3 * k) us vs fits) z (behind_left x (v i.forest (source_held w e long put as_long i.filled)) env h));
+                (left_move k (over_length (3 * k) us vs fits n ∙ us_long) (over_drop (3 * k) us vs fits) z (behind_left x (v i.forest (source_held w e long put as_long i.filled)) env h));
           }
 
   -- WHEN
