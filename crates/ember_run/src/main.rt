@@ -1,12 +1,16 @@
 // The running program: the first argument names a job's file, the second a values file. It prints the number in the work table, kind, a and b of each
 // entry of the result, then where the result begins and how many entries it has; or only the refusal and its place. What cannot be run on is told on
-// standard error, and then nothing is printed: a file that cannot be read, a values file of more than 2 MiB, another number of arguments.
+// standard error, and then nothing is printed: a file that cannot be read or whose name is not UTF-8, a values file of more than 2 MiB, another number of
+// arguments.
 // The tables have full capacity. Of the job it reads the first 43,520 bytes: with these tables running them is running the whole job, however long
 // (`first_bytes_suffice` in proofs/Whole).
 #![tactic(auto)]
 
-ghost use Rattle.std.specs.Prelude.{◌≡◌, ◌≤◌, length};
+ghost use Rattle.std.specs.Prelude.{◌≡◌, ◌++◌, ◌≤◌, length, OnOk};
+ghost use Rattle.std.specs.Io.KnownBytes.{Appends};
 ghost use Rattle.intake.specs.Counts.{IsPrefixLen};
+ghost use Rattle.report.specs.Text.{stretch_lines, stretch_line};
+ghost use Rattle.ember_run.specs.Prints.{run_text};
 
 use intake::Got;
 use ran::Answer;
@@ -164,7 +168,9 @@ fn too_long(rt: HostRuntime, i: usize) {
 }
 
 // An accepted run: the result's entries, then where they stand.
-fn accepted<W: Write>(out: &mut W, work: &[u16], first: usize, length: usize) -> io::Result<()> {
+fn accepted<W: Write>(out: &mut W, work: &[u16], first: usize, length: usize) -> io::Result<()>
+    ensures { OnOk result (Appends (W.contents out.old) (W.contents out.new) (stretch_lines work.now first length ++ stretch_line first length)) }
+{
     report::stretch(out, work, first, length)?;
     report::result_at(out, first, length)
 }
@@ -177,7 +183,9 @@ fn outcome<W: Write>(
     types: &mut [u16],
     query: &mut [u16],
     work: &mut [u16],
-) -> io::Result<()> {
+) -> io::Result<()>
+    ensures { OnOk result (Appends (W.contents out.old) (W.contents out.new) (run_text job.now values.now (length types.old) (length query.old) (length work.old))) }
+{
     let ran = emberstitch::run_job(job, values, types, query, work);
     let answer = ran.answer;
     match answer {

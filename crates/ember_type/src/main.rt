@@ -3,7 +3,10 @@
 // (`first_bytes_suffice` in proofs/Whole).
 #![tactic(auto)]
 
-ghost use Rattle.std.specs.Prelude.{◌≡◌, length};
+ghost use Rattle.std.specs.Prelude.{◌≡◌, ◌++◌, length, OnOk};
+ghost use Rattle.std.specs.Io.KnownBytes.{Appends};
+ghost use Rattle.report.specs.Text.{stretch_lines, result_line};
+ghost use Rattle.ember_type.specs.Prints.{typing_text};
 
 use std::io;
 use std::io::Write;
@@ -29,7 +32,9 @@ fn query_table() -> [u16; 4096]
 }
 
 // An accepted job: its entries, then its result.
-fn accepted<W: Write>(out: &mut W, types: &[u16], count: usize, res: usize) -> io::Result<()> {
+fn accepted<W: Write>(out: &mut W, types: &[u16], count: usize, res: usize) -> io::Result<()>
+    ensures { OnOk result (Appends (W.contents out.old) (W.contents out.new) (stretch_lines types.now 0 count ++ result_line res)) }
+{
     report::table(out, types, count)?;
     report::result(out, res)
 }
@@ -40,7 +45,9 @@ fn outcome<W: Write>(
     job: &[u8],
     types: &mut [u16],
     query: &mut [u16],
-) -> io::Result<()> {
+) -> io::Result<()>
+    ensures { OnOk result (Appends (W.contents out.old) (W.contents out.new) (typing_text job.now (length types.old) (length query.old))) }
+{
     let typed = emberstitch::type_job(job, types, query);
     let answer = typed.answer;
     match answer {

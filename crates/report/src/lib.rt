@@ -50,7 +50,8 @@ fn put_digits(page: &mut [u8], at: usize, most: usize, n: usize) -> usize
     end + 1
 }
 
-// A number in decimal with a byte behind it, from a place of a page on; the place behind both. 20 digits hold every number of 64 bits.
+// A number in decimal with a byte behind it, from a place of a page on; the place behind both. 20 digits hold every number of 64
+// bits (`decimal_reads` in proofs/Digits).
 fn number(page: &mut [u8], at: usize, n: usize, behind: u8) -> usize
     requires { at + 21 ≤ length page.old }
     ensures upper_bound { result ≤ at + 21 }

@@ -1,0 +1,2 @@
+-- What the running program prints.
+pub mod Prints

@@ -1,0 +1,2 @@
+-- What the typing program prints.
+pub mod Prints
