@@ -1,7 +1,7 @@
 /*
  * Emberstitch for the layout engine: the one call that answers a job, its refusals, and the records of an answer file. C99, and C++.
  *
- * Link with crates/emberstitch_c/out/libemberstitch_c.a, which `rt lib` in crates/emberstitch_c proves and writes, for x86-64 Linux.
+ * Link with target/staticlib/libemberstitch.a, which `tools/archive` proves and writes, for x86-64 Linux.
  */
 #ifndef EMBERSTITCH_H
 #define EMBERSTITCH_H
