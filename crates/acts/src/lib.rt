@@ -45,7 +45,8 @@ fn prime_act(defs: &[u16], w: words::Entry, e: usize) -> Act
     if kind < 4 {
         return Act::Answer(e);
     }
-    if kind > 9 {
+    let is_above = kind > 9;
+    if is_above {
         return Act::Answer(e);
     }
     if kind < 6 {
@@ -62,7 +63,8 @@ fn content_act(w: words::Entry) -> Act
     if kind == 3 {
         return Act::Answer(words::wide(w.b));
     }
-    if kind != 5 {
+    let not_union = kind != 5;
+    if not_union {
         return Act::Answer(0);
     }
     Act::First(5, words::wide(w.a))
@@ -93,7 +95,8 @@ fn sift_act(test: u16, defs: &[u16], w: words::Entry, e: usize) -> Act
     if kind < 4 {
         return Act::Answer(e);
     }
-    if kind < 9 {
+    let has_parts = kind < 9;
+    if has_parts {
         return Act::First(kind, words::wide(w.a));
     }
     if kind == 9 {

@@ -31,7 +31,8 @@ fn mark(kind: u16, a: u16, b: u16, marks: &[u16]) -> u16
     requires { kind ≡ type·union → (a < length marks.now) × (b < length marks.now) }
     ensures { (D : Defs) (T : Table) (e : ℕ) → Formed D T → At T e (entry_of kind a b) → Marked D T e marks.now → eqb result 1 ≡ is_atoms (shape D T e) }
 {
-    if kind == 5 {
+    let is_union = kind == 5;
+    if is_union {
         return both(marks, words::wide(a), words::wide(b));
     }
     if kind == 2 {
@@ -63,7 +64,8 @@ fn is_tangled(kind: u16, e: usize, marks: &[u16]) -> bool
     requires { e < length marks.now }
     ensures { (D : Defs) (T : Table) (n : ℕ) → Marked D T n marks.now → e < n → result ≡ is_tangled D T (var_of kind e) }
 {
-    if kind == 17 {
+    let is_tree = kind == 17;
+    if is_tree {
         return marks[e] != 1;
     }
     false

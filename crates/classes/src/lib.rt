@@ -249,7 +249,8 @@ fn place(
     let kind = w.kind;
     let a = w.a;
     let b = w.b;
-    if kind == 9 { // a name
+    let is_name = kind == 9; // a name
+    if is_name {
         climb(types, count, defs, used, classes, back, e);
         return;
     }

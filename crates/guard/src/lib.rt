@@ -69,7 +69,8 @@ fn own_set(kind: u16, a: u16, b: u16, masks: &[u64]) -> u64
     if kind == 9 {
         return 1 << (a as u64);
     }
-    if 8 < kind {
+    let is_above = 8 < kind;
+    if is_above {
         return 0;
     }
     if 5 < kind {

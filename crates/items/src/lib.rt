@@ -300,7 +300,8 @@ fn go_tail(s: &[u8], at: usize, deep: u16, nodes: u16) -> Act
     if tokens::kind_of(token) != 19 {
         return Act::Done { next: at, nodes };
     }
-    if 1024 < nodes {
+    let too_many = 1024 < nodes;
+    if too_many {
         return Act::Again { deep, next };
     }
     let a = last(nodes);

@@ -97,10 +97,12 @@ fn finish(s: &[u8], at: usize, nodes: u16) -> Part
     let t = tokens::token_at(s, at);
     let place = t.place;
     let token = t.token;
-    if tokens::kind_of(token) != 0 {
+    let goes_on = tokens::kind_of(token) != 0;
+    if goes_on {
         return Part::Refused { number: 22, place };
     }
-    if 1024 < nodes {
+    let too_many = 1024 < nodes;
+    if too_many {
         return Part::Refused {
             number: 5,
             place: 0,

@@ -98,7 +98,8 @@ fn chosen(types: &[u16], marks: &[u16], test: u16, i: usize) -> bool
     requires fact_2 { i < length marks.now }
     ensures { (count : ℕ) → i < count → result ≡ picked test (table_of types.now count) (marks_of count marks.now) i }
 {
-    if marks[i] == 0 {
+    let unmarked = marks[i] == 0;
+    if unmarked {
         return false;
     }
     let x = words::read_entry(types, i);

@@ -352,7 +352,8 @@ pub fn read_records(file: File, s: &[u8], types: &mut [u16], code: &mut [u16]) -
 {
     words::clear(types);
     words::clear(code);
-    if words::type_room(types) < 2 {
+    let too_small = words::type_room(types) < 2;
+    if too_small {
         return refusal(5, 0);
     }
     read_into(file, s, types, code)

@@ -18,7 +18,8 @@ pub fn emit(code: &mut [u16], nodes: u16, kind: u16, a: u16, b: u16, c: u16) -> 
     requires fact_2 { nodes ≤ 1025 }
     ensures { Emits nodes (node kind a b c) code.old result code.new }
 {
-    if nodes < 1024 {
+    let has_room = nodes < 1024;
+    if has_room {
         let n = words::wide(nodes);
         words::put_node(code, n, kind, a, b, c);
         return nodes + 1;

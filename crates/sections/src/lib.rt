@@ -45,7 +45,8 @@ fn put_record(out: &mut [u8], at: usize, kind: u16, a: u16, b: u16, c: u16) -> u
         return at + 6;
     }
     words::put_word(out, at + 6, b);
-    if size < 10 {
+    let has_two = size < 10;
+    if has_two {
         return at + 8;
     }
     words::put_word(out, at + 8, c);

@@ -131,7 +131,8 @@ pub fn is_wide(kind: u16) -> bool
     if kind < 3 {
         return false;
     }
-    if kind <= 14 {
+    let is_word = kind <= 14;
+    if is_word {
         return true;
     }
     if kind == 24 {

@@ -95,7 +95,8 @@ fn lowest_misuse(counts: &[u16], nodes: usize) -> words::Found
 {
     let mut q = 0;
     while q + 1 < nodes {
-        if counts[q] != 1 {
+        let misused = counts[q] != 1;
+        if misused {
             return words::Found::At(q);
         }
         q += 1;

@@ -189,7 +189,8 @@ fn is_odd(kind: u16, s: &[u8], start: usize, n: u16) -> bool
     requires { start ≤ length s.now }
     ensures { Odd kind (read_forest n s.now start n) result }
 {
-    if kind == 17 {
+    let is_tree = kind == 17;
+    if is_tree {
         return !one_tree(s, start, n);
     }
     false

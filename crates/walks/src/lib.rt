@@ -180,7 +180,8 @@ pub fn filter(
     requires fact_2 { 4096 ≤ length stack.old }
     ensures { Left (take used defs.now) types.old types.new classes.old classes.new result (filter (type_capacity (length types.old)) node (take used defs.now) test e (table_of types.old count)) }
 {
-    if test == 0 {
+    let passes_all = test == 0;
+    if passes_all {
         return Made::Entry { at: e, count };
     }
     let mode = Mode::Sift(test);

@@ -9,8 +9,8 @@ use Rattle.acts.proofs.content_act.Goals as goal
 pub returns-then-kind-eq3 : goal.returns-then-kind-eq3
 returns-then-kind-eq3 c = ap Act.Answer c.wide.ensures ∙ content_child _ _ c.if-kind-eq3.true
 
-pub returns-then-kind-ne5 : goal.returns-then-kind-ne5
-returns-then-kind-ne5 c = content_none _ _ c.if-kind-eq3.false c.if-kind-ne5.true
+pub returns-then-not_union : goal.returns-then-not_union
+returns-then-not_union c = content_none _ _ c.if-kind-eq3.false c.if-not_union.true
 
 pub returns : goal.returns
-returns c = ap (Act.First 5) c.wide-2.ensures ∙ content_two _ _ (omega (arith, c.if-kind-ne5.false))
+returns c = ap (Act.First 5) c.wide-2.ensures ∙ content_two _ _ (omega (arith, c.if-not_union.false))

@@ -8,8 +8,8 @@ use Rattle.acts.proofs.prime_act.Goals as goal
 pub returns-then-kind-lt4 : goal.returns-then-kind-lt4
 returns-then-kind-lt4 c = prime_low _ _ _ _ c.if-kind-lt4.true
 
-pub returns-then-kind-gt9 : goal.returns-then-kind-gt9
-returns-then-kind-gt9 c = prime_high _ _ _ _ c.if-kind-gt9.true
+pub returns-then-is_above : goal.returns-then-is_above
+returns-then-is_above c = prime_high _ _ _ _ c.if-is_above.true
 
 pub returns-then-kind-lt6 : goal.returns-then-kind-lt6
 returns-then-kind-lt6 c =
@@ -17,4 +17,4 @@ returns-then-kind-lt6 c =
 
 pub returns : goal.returns
 returns c =
-    prime_into _ _ _ _ c.part.ensures c.if-kind-lt6.false c.if-kind-gt9.false
+    prime_into _ _ _ _ c.part.ensures c.if-kind-lt6.false c.if-is_above.false

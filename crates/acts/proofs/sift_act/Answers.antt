@@ -16,12 +16,12 @@ pub returns-then-kind-lt4 : goal.returns-then-kind-lt4
 returns-then-kind-lt4 c =
     sift_low _ _ _ _ _ c.if-kind-lt4.true c.if-kind-eq2.false c.if-kind-eq3.false
 
-pub returns-then-kind-lt9 : goal.returns-then-kind-lt9
-returns-then-kind-lt9 c =
-    rw c.wide.ensures (sift_first _ _ _ _ _ c.if-kind-lt4.false c.if-kind-lt9.true)
+pub returns-then-has_parts : goal.returns-then-has_parts
+returns-then-has_parts c =
+    rw c.wide.ensures (sift_first _ _ _ _ _ c.if-kind-lt4.false c.if-has_parts.true)
 
 pub returns-then-kind-eq9 : goal.returns-then-kind-eq9
 returns-then-kind-eq9 c = sift_into _ _ _ _ _ c.part.ensures c.if-kind-eq9.true
 
 pub returns : goal.returns
-returns c = sift_high _ _ _ _ _ (omega (arith, c.if-kind-lt9.false, c.if-kind-eq9.false))
+returns c = sift_high _ _ _ _ _ (omega (arith, c.if-has_parts.false, c.if-kind-eq9.false))

@@ -10,8 +10,8 @@ overflow_shl-result c = low_name _ _ _ c.requires c.if-kind-eq9.true
 pub returns-then-kind-eq9 : goal.returns-then-kind-eq9
 returns-then-kind-eq9 c = set_name _ _ _ _ c.requires c.if-kind-eq9.true
 
-pub returns-then-kind-gt8 : goal.returns-then-kind-gt8
-returns-then-kind-gt8 c = set_other _ _ _ _ (omega (arith, c.if-kind-eq9.false))
+pub returns-then-is_above : goal.returns-then-is_above
+returns-then-is_above c = set_other _ _ _ _ (omega (arith, c.if-kind-eq9.false))
 
 pub bounds-masks-a : goal.bounds-masks-a
 bounds-masks-a c = low_one _ _ _ c.requires (search rules) (omega arith)

@@ -7,10 +7,10 @@ pub returns-then-kind_of-ne19 : goal.returns-then-kind_of-ne19
 returns-then-kind_of-ne19 c =
     λ code b. tail_done _ _ _ _ c.token_at-t.ensures c.kind_of.ensures code b c.if-kind_of-ne19.true
 
-pub returns-then-nodes-gt1024 : goal.returns-then-nodes-gt1024
-returns-then-nodes-gt1024 c =
-    λ code b. tail_same _ _ _ _ c.token_at-t.ensures c.kind_of.ensures code b c.if-kind_of-ne19.false c.requires c.if-nodes-gt1024.true
+pub returns-then-too_many : goal.returns-then-too_many
+returns-then-too_many c =
+    λ code b. tail_same _ _ _ _ c.token_at-t.ensures c.kind_of.ensures code b c.if-kind_of-ne19.false c.requires c.if-too_many.true
 
 pub returns : goal.returns
 returns c =
-    λ code b. tail_more _ _ _ _ c.token_at-t.ensures c.kind_of.ensures code b c.if-kind_of-ne19.false c.requires c.if-nodes-gt1024.false c.last-a.ensures
+    λ code b. tail_more _ _ _ _ c.token_at-t.ensures c.kind_of.ensures code b c.if-kind_of-ne19.false c.requires c.if-too_many.false c.last-a.ensures

@@ -6,9 +6,9 @@ use Rattle.words.proofs.Entries.{words_make}
 use Rattle.reach.proofs.Atoms.{chosen_over, chosen_atom}
 use Rattle.reach.proofs.chosen.Goals as goal
 
-pub returns-then-marks-i-eq0 : goal.returns-then-marks-i-eq0
-returns-then-marks-i-eq0 c = chosen_over _ _ _ _ c.if-marks-i-eq0.true
+pub returns-then-unmarked : goal.returns-then-unmarked
+returns-then-unmarked c = chosen_over _ _ _ _ c.if-unmarked.true
 
 pub returns : goal.returns
 returns c =
-    chosen_atom _ _ _ _ c.if-marks-i-eq0.false (c.atom_passes.ensures c.read_entry-x.result.b ∙ ap (λ (x : Entry). atom_passes c.args.test (head_of x)) (words_make c.args.types.now c.args.i _ c.read_entry-x.ensures))
+    chosen_atom _ _ _ _ c.if-unmarked.false (c.atom_passes.ensures c.read_entry-x.result.b ∙ ap (λ (x : Entry). atom_passes c.args.test (head_of x)) (words_make c.args.types.now c.args.i _ c.read_entry-x.ensures))

@@ -4,13 +4,13 @@ use native.Mathlib.Omega.{arith}
 use Rattle.reading.proofs.Whole.{cleared, left_small, left_same}
 use Rattle.reading.proofs.read_records.Goals as goal
 
-pub returns-then-type_room-lt2 : goal.returns-then-type_room-lt2
-returns-then-type_room-lt2 c =
-    left_small _ _ (omega (arith, c.if-type_room-lt2.true, c.type_room.ensures, c.clear.auto.t)) c.refusal.ensures c.clear.ensures c.clear-2.ensures
+pub returns-then-too_small : goal.returns-then-too_small
+returns-then-too_small c =
+    left_small _ _ (omega (arith, c.if-too_small.true, c.type_room-too_small.ensures, c.clear.auto.t)) c.refusal.ensures c.clear.ensures c.clear-2.ensures
 
 pub read_into-requires : goal.read_into-requires
 read_into-requires c =
-    record { fact_1 = record { clear = cleared _ c.clear.ensures; room = omega (arith, c.if-type_room-lt2.false, c.type_room.ensures) }; fact_2 = cleared _ c.clear-2.ensures }
+    record { fact_1 = record { clear = cleared _ c.clear.ensures; room = omega (arith, c.if-too_small.false, c.type_room-too_small.ensures) }; fact_2 = cleared _ c.clear-2.ensures }
 
 pub returns : goal.returns
 returns c =

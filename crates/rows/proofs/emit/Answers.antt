@@ -6,12 +6,12 @@ use Rattle.rows.proofs.emit.Goals as goal
 
 pub put_node-requires : goal.put_node-requires
 put_node-requires c =
-    omega (arith, c.requires.fact_1, c.wide-n.ensures, c.if-nodes-lt1024.true)
+    omega (arith, c.requires.fact_1, c.wide-n.ensures, c.if-has_room.true)
 
-pub returns-then-nodes-lt1024 : goal.returns-then-nodes-lt1024
-returns-then-nodes-lt1024 c =
-    emits_row _ _ _ _ c.requires.fact_1 c.if-nodes-lt1024.true c.wide-n.ensures c.put_node.ensures
+pub returns-then-has_room : goal.returns-then-has_room
+returns-then-has_room c =
+    emits_row _ _ _ _ c.requires.fact_1 c.if-has_room.true c.wide-n.ensures c.put_node.ensures
 
 pub returns : goal.returns
 returns c =
-    emits_none c.if-nodes-lt1024.false
+    emits_none c.if-has_room.false

@@ -52,21 +52,21 @@ pub put_word-requires-4 : goal.put_word-requires-4
 put_word-requires-4 c =
     omega (arith, size_small c.args.kind 0 0 0 c.size_of-size.ensures, c.size_of-size.ensures, c.requires, c.put_word.auto.t, c.put_word-2.auto.t, c.put_word-3.auto.t, c.if-size-lt8.false)
 
-pub overflow_add-result-then-size-lt10 : goal.overflow_add-result-then-size-lt10
-overflow_add-result-then-size-lt10 c =
+pub overflow_add-result-then-has_two : goal.overflow_add-result-then-has_two
+overflow_add-result-then-has_two c =
     omega (arith, size_small c.args.kind 0 0 0 c.size_of-size.ensures, c.size_of-size.ensures, c.requires, c.put_word.auto.t, c.put_word-2.auto.t, c.put_word-3.auto.t, c.put_word-4.auto.t)
 
-pub returns-then-size-lt10 : goal.returns-then-size-lt10
-returns-then-size-lt10 c =
-    put_two _ _ _ _ c.size_of-size.ensures c.put_word.ensures c.put_word-2.ensures c.requires c.put_word.auto.t c.put_word-2.auto.t c.if-size-lt6.false c.put_word-3.ensures c.put_word-3.auto.t c.if-size-lt8.false c.put_word-4.ensures c.put_word-4.auto.t c.if-size-lt10.true
+pub returns-then-has_two : goal.returns-then-has_two
+returns-then-has_two c =
+    put_two _ _ _ _ c.size_of-size.ensures c.put_word.ensures c.put_word-2.ensures c.requires c.put_word.auto.t c.put_word-2.auto.t c.if-size-lt6.false c.put_word-3.ensures c.put_word-3.auto.t c.if-size-lt8.false c.put_word-4.ensures c.put_word-4.auto.t c.if-has_two.true
 
 pub overflow_add-at-4 : goal.overflow_add-at-4
 overflow_add-at-4 c =
-    omega (arith, size_small c.args.kind 0 0 0 c.size_of-size.ensures, c.size_of-size.ensures, c.requires, c.put_word.auto.t, c.put_word-2.auto.t, c.put_word-3.auto.t, c.put_word-4.auto.t, c.if-size-lt10.false)
+    omega (arith, size_small c.args.kind 0 0 0 c.size_of-size.ensures, c.size_of-size.ensures, c.requires, c.put_word.auto.t, c.put_word-2.auto.t, c.put_word-3.auto.t, c.put_word-4.auto.t, c.if-has_two.false)
 
 pub put_word-requires-5 : goal.put_word-requires-5
 put_word-requires-5 c =
-    omega (arith, size_small c.args.kind 0 0 0 c.size_of-size.ensures, c.size_of-size.ensures, c.requires, c.put_word.auto.t, c.put_word-2.auto.t, c.put_word-3.auto.t, c.put_word-4.auto.t, c.if-size-lt10.false)
+    omega (arith, size_small c.args.kind 0 0 0 c.size_of-size.ensures, c.size_of-size.ensures, c.requires, c.put_word.auto.t, c.put_word-2.auto.t, c.put_word-3.auto.t, c.put_word-4.auto.t, c.if-has_two.false)
 
 pub overflow_add-result-2 : goal.overflow_add-result-2
 overflow_add-result-2 c =
@@ -74,4 +74,4 @@ overflow_add-result-2 c =
 
 pub returns : goal.returns
 returns c =
-    put_three _ _ _ _ c.size_of-size.ensures c.put_word.ensures c.put_word-2.ensures c.requires c.put_word.auto.t c.put_word-2.auto.t c.if-size-lt6.false c.put_word-3.ensures c.put_word-3.auto.t c.if-size-lt8.false c.put_word-4.ensures c.put_word-4.auto.t c.if-size-lt10.false c.put_word-5.ensures
+    put_three _ _ _ _ c.size_of-size.ensures c.put_word.ensures c.put_word-2.ensures c.requires c.put_word.auto.t c.put_word-2.auto.t c.if-size-lt6.false c.put_word-3.ensures c.put_word-3.auto.t c.if-size-lt8.false c.put_word-4.ensures c.put_word-4.auto.t c.if-has_two.false c.put_word-5.ensures

@@ -8,9 +8,9 @@ pub returns-then-kind-lt3 : goal.returns-then-kind-lt3
 returns-then-kind-lt3 c =
     λ v. wide_no _ c.if-kind-lt3.true
 
-pub returns-then-kind-le14 : goal.returns-then-kind-le14
-returns-then-kind-le14 c =
-    λ v. wide_word _ c.if-kind-lt3.false c.if-kind-le14.true
+pub returns-then-is_word : goal.returns-then-is_word
+returns-then-is_word c =
+    λ v. wide_word _ c.if-kind-lt3.false c.if-is_word.true
 
 pub returns-then-kind-eq24 : goal.returns-then-kind-eq24
 returns-then-kind-eq24 c =
@@ -18,4 +18,4 @@ returns-then-kind-eq24 c =
 
 pub returns : goal.returns
 returns c =
-    λ v. wide_last _ c.if-kind-le14.false c.if-kind-eq24.false refl
+    λ v. wide_last _ c.if-is_word.false c.if-kind-eq24.false refl

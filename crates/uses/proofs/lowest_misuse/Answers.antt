@@ -9,13 +9,13 @@ use Rattle.uses.proofs.lowest_misuse.Goals as goal
 pub loop-q-init : goal.loop-q-init
 loop-q-init c = seeking_none _ _
 
-pub returns-then-counts-q-ne1 : goal.returns-then-counts-q-ne1
-returns-then-counts-q-ne1 c =
-    seeking_here _ _ c.loop-q.invariant (omega arith) (ap not (ne_eqb _ 1 c.if-counts-q-ne1.true))
+pub returns-then-misused : goal.returns-then-misused
+returns-then-misused c =
+    seeking_here _ _ c.loop-q.invariant (omega arith) (ap not (ne_eqb _ 1 c.if-misused.true))
 
 pub loop-q-preserved : goal.loop-q-preserved
 loop-q-preserved c =
-    seeking_more _ _ c.loop-q.invariant (omega arith) (ap not (eq-eqb _ 1 c.if-counts-q-ne1.false))
+    seeking_more _ _ c.loop-q.invariant (omega arith) (ap not (eq-eqb _ 1 c.if-misused.false))
 
 pub returns : goal.returns
 returns c = seeking_all _ _ c.loop-q.invariant (omega arith)

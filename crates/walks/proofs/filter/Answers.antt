@@ -4,10 +4,10 @@ use Rattle.grow.proofs.Steps.{left_here}
 use Rattle.walks.proofs.Filters.{filter_all, filter_some}
 use Rattle.walks.proofs.filter.Goals as goal
 
-pub returns-then-test-eq0 : goal.returns-then-test-eq0
-returns-then-test-eq0 c =
-    rw (filter_all _ _ _ _ _ c.if-test-eq0.true) (left_here c.requires.fact_1.0 c.requires.fact_1.1)
+pub returns-then-passes_all : goal.returns-then-passes_all
+returns-then-passes_all c =
+    rw (filter_all _ _ _ _ _ c.if-passes_all.true) (left_here c.requires.fact_1.0 c.requires.fact_1.1)
 
 pub returns : goal.returns
 returns c =
-    rw (filter_some _ _ _ _ _ c.if-test-eq0.false) c.walk.ensures
+    rw (filter_some _ _ _ _ _ c.if-passes_all.false) c.walk.ensures
