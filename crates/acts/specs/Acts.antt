@@ -1,26 +1,12 @@
 -- What the rules prime, content and filter do at one entry: the clauses of `meaning`, an entry at a time.
 -- Assumes nothing.
-use Rattle.std.specs.Prelude.{◌≡◌, cond, List, ℕ, ◌*◌, ◌<◌, ◌≤◌, length, get_or}
-use Rattle.meaning.specs.Base.{type_width}
+use Rattle.std.specs.Prelude.{cond, ℕ, get_or}
 use Rattle.meaning.specs.Forests.{text, label, passes}
 use Rattle.meaning.specs.Types.{Entry, Defs, empty, string, element, pair, union, star, plus, opt, name}
-use Rattle.meaning.specs.Formed.{Formed}
 use Rattle.meaning.specs.Shapes.{Shape}
 use Rattle.meaning.specs.Rules.{Rule, prime, content, sift}
-use Rattle.words.specs.Tables.{table_of}
 use Rattle.acts.specs.declared.Mode.{Mode}
 use Rattle.acts.specs.declared.Act.{Act}
-
--- e is one of n entries in the words ws, formed with the definitions D
-pub record Place (D : Defs) (ws : List ℕ) (n e : ℕ) : Type 0 where
-  pub formed : Formed D (table_of ws n)
-  pub inside : type_width * n ≤ length ws
-  pub low : e < n
-
--- r is the entry that an entry of kind k with first field a names first, with definitions ds: for a name, its definition's
-pub record Part (ds : List ℕ) (k a r : ℕ) : Type 0 where
-  pub name : k ≡ 9 → r ≡ get_or ds a 0
-  pub other : (k ≡ 9 → ⊥) → r ≡ a
 
 -- the rule of `meaning`, for query node n in a table of so many entries
 abbrev pub does : Mode → ℕ → ℕ → Shape → Rule ℕ

@@ -4,7 +4,6 @@ use mathlib.Core.Path.{◌≡◌, refl, ap, ◌∙◌}
 use mathlib.Core.Bool.{Bool, true, false}
 use mathlib.Core.List.{List}
 use Prim.Native.Nat.{ℕ, ◌-◌, ◌≤◌, ◌<◌}
-use native.Mathlib.Omega.{arith}
 use lib.Dec.{leb}
 use lib.ListN.{length, take}
 use lib.Seq.{take_at}
@@ -12,7 +11,7 @@ use borrow.Author.Tests.{leb-true, leb-false}
 use Rattle.meaning.specs.Base.{Out, ok, refused, ◌>>=◌, require, zeros, Caps}
 use Rattle.meaning.specs.Typing.{Typed, type_job}
 use Rattle.meaning.specs.Answers.{answer_file, fitted, answer_job}
-use Rattle.answers.specs.declared.Written.TheVariants.{Bytes}
+use Rattle.std.specs.Prelude as Std
 use Rattle.answers.specs.Says.{Left}
 
 -- a file that fits a buffer of so many bytes, or 17
@@ -28,14 +27,11 @@ fitted_is room file = go (leb (length file) room) refl
     go false e = short (leb-false (length file) room e)
 
 -- a writer that says so many bytes has put the file there
-pub written : {room n : ℕ} {file buffer : List ℕ} {o : Out (List ℕ)} → Fitted room file o → Left room (Bytes n) buffer o → take n buffer ≡ file
+pub written : {room n : ℕ} {file buffer : List ℕ} {o : Out (List ℕ)} → Fitted room file o → Left room (Std.Ok n) buffer o → take n buffer ≡ file
 written {room} {n} {file} (fits h) l =
-    let same : length file ≡ n = sizes l.answer in
+    let same : length file ≡ n = cc (l.answer) in
     ap (take n) l.bytes ∙ take_at file (zeros (room - length file)) n same
-  where
-    sizes : Bytes n ≡ Bytes (length file) → length file ≡ n
-    sizes e = cc
-written (short h) l = let e = l.answer in let z : ◌≡◌ {A = ℕ} 0 1 = cc in absurd (omega arith)
+written (short h) l = cc (l.answer)
 
 -- A TYPED JOB is answered by its file
 abbrev pub file_of : Typed → List ℕ

@@ -37,12 +37,19 @@ extends_word {t} {u} {at} {to} w e l n =
     }
 
 -- the words that a record begins with
-pub start_put : {t u v x : List ℕ} {at : ℕ} (size kind a : ℕ) → u ≡ stored t at (bytes_of (size ∷ [])) → v ≡ stored u (at + 2) (bytes_of (kind ∷ [])) → x ≡ stored v (at + 4) (bytes_of (a ∷ []))
-    → at + 6 ≤ length t → length u ≡ length t → length v ≡ length t → Extends at (at + 6) (bytes_of (size ∷ kind ∷ a ∷ [])) t x
+pub start_put : {t u v : List ℕ} {at : ℕ} (size kind : ℕ) → u ≡ stored t at (bytes_of (size ∷ [])) → v ≡ stored u (at + 2) (bytes_of (kind ∷ [])) → at + 4 ≤ length t → length u ≡ length t → Extends at (at + 4) (bytes_of (size ∷ kind ∷ [])) t v
 unfolding bytes_of
-start_put {at = at} size kind a p q r l m n =
-    extends_then {b = at + 2} (extends_word size p (omega arith) refl)
-    (extends_then {b = at + 4} (extends_word kind q (omega arith) (omega arith)) (extends_word a r (omega arith) (omega arith)))
+start_put {at = at} size kind p q l m = extends_then {b = at + 2} (extends_word size p (omega arith) refl) (extends_word kind q (omega arith) (omega arith))
+
+-- the record of one field, and of two
+pub one_put : {t u v : List ℕ} {at : ℕ} (kind a : ℕ) → Extends at (at + 4) (bytes_of (6 ∷ kind ∷ [])) t u → v ≡ stored u (at + 4) (bytes_of (a ∷ [])) → at + 6 ≤ length u → Extends at (at + 6) (bytes_of (6 ∷ kind ∷ a ∷ [])) t v
+unfolding bytes_of
+one_put kind a x e l = extends_then x (extends_word a e (omega arith) (omega arith))
+
+pub two_put : {t u v w : List ℕ} {at : ℕ} (kind a b : ℕ) → Extends at (at + 4) (bytes_of (8 ∷ kind ∷ [])) t u → v ≡ stored u (at + 4) (bytes_of (a ∷ [])) → w ≡ stored v (at + 6) (bytes_of (b ∷ [])) → at + 8 ≤ length u → length v ≡ length u
+    → Extends at (at + 8) (bytes_of (8 ∷ kind ∷ a ∷ b ∷ [])) t w
+unfolding bytes_of
+two_put {at = at} kind a b x e f l m = extends_then x (extends_then {b = at + 6} (extends_word a e (omega arith) (omega arith)) (extends_word b f (omega arith) (omega arith)))
 
 -- what a buffer holds when something was written from its front
 pub all_held : {to : ℕ} {more t u : List ℕ} → Extends 0 to more t u → take to u ≡ more

@@ -1,88 +1,69 @@
--- A type record by its kind: an element, a pair and a union have two fields, the others one.
+-- A type record by its type: how long it is, and when it is put. And the records of a formed table are few bytes.
 -- Assumes nothing.
-use mathlib.Core.Path.{◌≡◌, ap, ◌∙◌}
+use mathlib.Core.Path.{◌≡◌, sym, ap, subst, ◌∙◌}
+use mathlib.Core.Logic.{◌⊎◌, inl, inr}
 use mathlib.Core.List.{List, [], ◌∷◌}
-use Prim.Native.Nat.{ℕ, ◌+◌, ◌≤◌, ◌<◌}
+use Prim.Native.Nat.{ℕ, ◌+◌, ◌*◌, ◌≤◌}
 use native.Mathlib.Omega.{arith}
 use lib.ListN.{length, length-append}
-use Rattle.meaning.specs.Base.{bytes_of, concat_map}
+use Rattle.meaning.specs.Base.{concat_map}
 use Rattle.meaning.specs.Kinds
-use Rattle.meaning.specs.Types as Types
-use Rattle.meaning.specs.Types.{Entry, Table, Defs, kind_of, fields_of, entry_of, at}
-use Rattle.meaning.specs.Formed.{Lower, Formed}
+use Rattle.meaning.specs.Types.{Entry, Table, Defs, kind_of, fields_of}
+use Rattle.meaning.specs.Formed.{Formed}
 use Rattle.meaning.specs.Answers.{record_of, type_record, answer_file}
-use Rattle.meaning.proofs.Lists.{at_is}
 use Rattle.meaning.proofs.FileLength.{record_length, file_short}
-use Rattle.words.specs.declared.Entry as Words
-use Rattle.words.specs.Tables.{stored, table_of}
-use Rattle.words.proofs.Tables.{table_length}
-use Rattle.words.proofs.Entries.{Kinded, is_string, is_element, is_pair, is_union, is_star, is_plus, is_opt, is_name, is_other, kinded, Read, entry_read}
-use Rattle.answers.specs.Parts.{Recorded, Extends, Typed, type_bytes}
-use Rattle.answers.proofs.Extending.{extends_then, extends_word}
+use Rattle.entries.specs.Says.{shown}
+use Rattle.entries.specs.declared.Ty.{Ty}
+use Rattle.answers.specs.Parts.{type_bytes, Extends}
 
-two_of : {k a b : ℕ} {x : Entry} → 3 ≤ k → k < 6 → Kinded k a b x → type_record x ≡ bytes_of (8 ∷ k ∷ a ∷ b ∷ [])
-unfolding kind_of fields_of
-two_of l m (is_string p) = absurd (omega arith)
-two_of l m (is_element p) = rw p
-two_of l m (is_pair p) = rw p
-two_of l m (is_union p) = rw p
-two_of l m (is_star p) = absurd (omega arith)
-two_of l m (is_plus p) = absurd (omega arith)
-two_of l m (is_opt p) = absurd (omega arith)
-two_of l m (is_name p) = absurd (omega arith)
-two_of l m (is_other o) = absurd (omega (arith, o.no_element, o.no_pair, o.no_union))
+-- a record of these fields: how long it is, and when it is put
+module _ (y : Entry) (ws : List ℕ) (is : type_record y ≡ record_of (kind_of y) ws) where
+  fields_long : length (type_record y) ≡ 4 + 2 * length ws
+  fields_long = ap length is ∙ record_length (kind_of y) ws
 
-one_of : {k a b : ℕ} {x : Entry} → 6 ≤ k → k ≤ 9 → Kinded k a b x → type_record x ≡ bytes_of (6 ∷ k ∷ a ∷ [])
-unfolding kind_of fields_of
-one_of l m (is_string p) = absurd (omega arith)
-one_of l m (is_element p) = absurd (omega arith)
-one_of l m (is_pair p) = absurd (omega arith)
-one_of l m (is_union p) = absurd (omega arith)
-one_of l m (is_star p) = rw p
-one_of l m (is_plus p) = rw p
-one_of l m (is_opt p) = rw p
-one_of l m (is_name p) = rw p
-one_of l m (is_other o) = absurd (omega (arith, o.no_star, o.no_plus, o.no_opt, o.no_name))
+  fields_put : {at to kind : ℕ} {t u : List ℕ} → kind ≡ kind_of y → Extends at to (record_of kind ws) t u → Extends at to (type_record y) t u
+  fields_put {at} {to} {t = t} {u = u} e h = subst (λ (r : List ℕ). Extends at to r t u) (ap (λ (k : ℕ). record_of k ws) e ∙ sym is) h
 
-module _ {k : ℕ} (r : Recorded k) (a b : ℕ) where
-  two_fields : k < 6 → type_record (entry_of k a b) ≡ bytes_of (8 ∷ k ∷ a ∷ b ∷ [])
-  two_fields l = two_of r.least l (kinded k a b)
+-- THE FIELDS of a type's record: none, one, two
+module _ {x : Ty} where
+  none_of : (x ≡ Ty.Empty) ⊎ (x ≡ Ty.Text) → type_record (shown x) ≡ record_of (kind_of (shown x)) []
+  unfolding fields_of
+  none_of (inl e) = rw e
+  none_of (inr e) = rw e
 
-  one_field : 6 ≤ k → type_record (entry_of k a b) ≡ bytes_of (6 ∷ k ∷ a ∷ [])
-  one_field l = one_of l r.most (kinded k a b)
+  one_of : {a : ℕ} → (x ≡ Ty.Star a) ⊎ ((x ≡ Ty.Plus a) ⊎ ((x ≡ Ty.Opt a) ⊎ (x ≡ Ty.Name a))) → type_record (shown x) ≡ record_of (kind_of (shown x)) (a ∷ [])
+  unfolding fields_of
+  one_of (inl e) = rw e
+  one_of (inr (inl e)) = rw e
+  one_of (inr (inr (inl e))) = rw e
+  one_of (inr (inr (inr e))) = rw e
 
-  pub two_length : k < 6 → length (type_record (entry_of k a b)) ≡ 8
-  two_length l = ap length (two_fields l) ∙ record_length k (a ∷ b ∷ [])
+  two_of : {a b : ℕ} → (x ≡ Ty.Element a b) ⊎ ((x ≡ Ty.Pair a b) ⊎ (x ≡ Ty.Union a b)) → type_record (shown x) ≡ record_of (kind_of (shown x)) (a ∷ b ∷ [])
+  unfolding fields_of
+  two_of (inl e) = rw e
+  two_of (inr (inl e)) = rw e
+  two_of (inr (inr e)) = rw e
 
-  pub one_length : 6 ≤ k → length (type_record (entry_of k a b)) ≡ 6
-  one_length l = ap length (one_field l) ∙ record_length k (a ∷ [])
+  pub none_long : (x ≡ Ty.Empty) ⊎ (x ≡ Ty.Text) → length (type_record (shown x)) ≡ 4
+  none_long h = fields_long (shown x) [] (none_of h)
 
-  -- the record in the buffer
-  pub two_put : {at : ℕ} {t u v : List ℕ} → k < 6 → Extends at (at + 6) (bytes_of (8 ∷ k ∷ a ∷ [])) t u → v ≡ stored u (at + 6) (bytes_of (b ∷ [])) → at + 8 ≤ length u → Extends at (at + 8) (type_record (entry_of k a b)) t v
-  unfolding bytes_of
-  two_put l x e m = rw (two_fields l) (extends_then x (extends_word b e (omega arith) (omega arith)))
+  pub one_long : {a : ℕ} → (x ≡ Ty.Star a) ⊎ ((x ≡ Ty.Plus a) ⊎ ((x ≡ Ty.Opt a) ⊎ (x ≡ Ty.Name a))) → length (type_record (shown x)) ≡ 6
+  one_long {a} h = fields_long (shown x) (a ∷ []) (one_of h)
 
-  pub one_put : {at : ℕ} {t u : List ℕ} → 6 ≤ k → Extends at (at + 6) (bytes_of (6 ∷ k ∷ a ∷ [])) t u → Extends at (at + 6) (type_record (entry_of k a b)) t u
-  one_put l x = rw (one_field l) x
+  pub two_long : {a b : ℕ} → (x ≡ Ty.Element a b) ⊎ ((x ≡ Ty.Pair a b) ⊎ (x ≡ Ty.Union a b)) → length (type_record (shown x)) ≡ 8
+  two_long {a} {b} h = fields_long (shown x) (a ∷ b ∷ []) (two_of h)
 
--- from entry 2 on a formed table has such kinds alone
-recorded_of : {n k a b : ℕ} {x : Entry} → Kinded k a b x → Lower n x → Recorded k
-recorded_of {n = n} {k = k} {a = a} {b = b} (is_string _) h = elim h [ ]
-recorded_of {n = n} {k = k} {a = a} {b = b} (is_other _) h = elim h [ ]
-recorded_of (is_element p) h = record { least = omega arith; most = omega arith }
-recorded_of (is_pair p) h = record { least = omega arith; most = omega arith }
-recorded_of (is_union p) h = record { least = omega arith; most = omega arith }
-recorded_of (is_star p) h = record { least = omega arith; most = omega arith }
-recorded_of (is_plus p) h = record { least = omega arith; most = omega arith }
-recorded_of (is_opt p) h = record { least = omega arith; most = omega arith }
-recorded_of (is_name p) h = record { least = omega arith; most = omega arith }
+  module _ {at to kind : ℕ} {t u : List ℕ} (e : kind ≡ kind_of (shown x)) where
+    pub none_put : (x ≡ Ty.Empty) ⊎ (x ≡ Ty.Text) → Extends at to (record_of kind []) t u → Extends at to (type_record (shown x)) t u
+    none_put h = fields_put (shown x) [] (none_of h) e
 
-pub kind_recorded : (ws : List ℕ) (n e : ℕ) → Typed ws n → 2 ≤ e → e < n → (w : Words.Entry) → Read ws e w → Recorded w.kind
-kind_recorded ws n e t two l w p =
-    let h = t.formed.lower e (at (table_of ws n) e) two (at_is (table_of ws n) e Types.empty (omega (arith, table_length ws n))) in
-    recorded_of {n = e} (kinded w.kind w.a w.b) (rw (entry_read ws n e l w p) h)
+    pub one_put : {a : ℕ} → (x ≡ Ty.Star a) ⊎ ((x ≡ Ty.Plus a) ⊎ ((x ≡ Ty.Opt a) ⊎ (x ≡ Ty.Name a))) → Extends at to (record_of kind (a ∷ [])) t u → Extends at to (type_record (shown x)) t u
+    one_put {a} h = fields_put (shown x) (a ∷ []) (one_of h) e
 
--- so the file's length is no great number
+    pub two_put : {a b : ℕ} → (x ≡ Ty.Element a b) ⊎ ((x ≡ Ty.Pair a b) ⊎ (x ≡ Ty.Union a b)) → Extends at to (record_of kind (a ∷ b ∷ [])) t u → Extends at to (type_record (shown x)) t u
+    two_put {a} {b} h = fields_put (shown x) (a ∷ b ∷ []) (two_of h) e
+
+-- THE RECORDS of a formed table are few bytes, so that no sum of them overflows
 pub types_short : {D : Defs} {T : Table} → Formed D T → length (type_bytes T) ≤ 32768
 unfolding answer_file concat_map
 types_short {D} {T} F =

@@ -1,11 +1,10 @@
 -- The parts of an answer file, and a lent buffer that they are written into one behind the other.
 -- Assumes nothing.
-use Rattle.std.specs.Prelude.{◌≡◌, List, ◌++◌, ℕ, ◌+◌, ◌*◌, ◌≤◌, length, take, drop}
-use Rattle.meaning.specs.Base.{concat_map, type_width}
+use Rattle.std.specs.Prelude.{◌≡◌, List, ◌++◌, ℕ, ◌+◌, length, take, drop}
+use Rattle.meaning.specs.Base.{concat_map}
 use Rattle.meaning.specs.Types.{Table, Defs}
 use Rattle.meaning.specs.Formed.{Formed}
 use Rattle.meaning.specs.Answers.{type_record, def_record}
-use Rattle.words.specs.Tables.{table_of}
 
 -- "the type records from entry 2 on, the definition records"
 abbrev pub type_bytes : Table → List ℕ
@@ -14,16 +13,10 @@ type_bytes T = concat_map type_record (drop 2 T)
 abbrev pub def_bytes : Defs → List ℕ
 def_bytes D = concat_map def_record D
 
--- the words of a type table that is formed with some definitions
-pub record Typed (types : List ℕ) (count : ℕ) : Type 0 where
+-- a type table that is formed with some definitions
+pub record Typed (T : Table) : Type 0 where
   pub defs : Defs
-  pub inside : type_width * count ≤ length types
-  pub formed : Formed defs (table_of types count)
-
--- a kind that a type record has
-pub record Recorded (kind : ℕ) : Type 0 where
-  pub least : 3 ≤ kind
-  pub most : kind ≤ 9
+  pub formed : Formed defs T
 
 -- a lent buffer that holds these bytes up to a place
 pub record Holds (place : ℕ) (ws buffer : List ℕ) : Type 0 where

@@ -1,134 +1,137 @@
-// The answer file, written into a lent buffer from the words of a type table, the definitions and a result: 17, or its bytes.
+// The answer file, written into a lent buffer from a type table, the definitions and a result: 17, or its bytes.
 #![tactic(auto)]
 
-ghost use Rattle.std.specs.Prelude.{◌≡◌, [], ◌∷◌, length, take};
+ghost use Rattle.std.specs.Prelude.{◌≡◌, [], ◌∷◌, length};
 ghost use Prim.Native.Nat.{◌+◌, ◌*◌, ◌≤◌};
 ghost use Rattle.meaning.specs.Base.{bytes_of};
-ghost use Rattle.meaning.specs.Types.{entry_of};
-ghost use Rattle.meaning.specs.Answers.{type_record, answer_file, fitted};
-ghost use Rattle.words.specs.Tables.{table_of};
+ghost use Rattle.meaning.specs.Answers.{record_of, type_record, answer_file, fitted};
+ghost use Rattle.entries.specs.Says.{shown};
 ghost use Rattle.answers.specs.Says.{Ready, Left};
-ghost use Rattle.answers.specs.Parts.{type_bytes, def_bytes, Typed, Recorded, Extends};
+ghost use Rattle.answers.specs.Parts.{type_bytes, def_bytes, Typed, Extends};
 
-// How many bytes the file has; or how many a longer buffer would need.
-#[derive(Drop)]
-pub enum Written {
-    Bytes(usize),
-    Short(usize),
-}
+use entries::Ty;
+use refusals::{Reason, Refusal};
+use tables::Types;
 
-// The words that each record begins with: its length, its kind and its first field.
-fn put_start(answer: &mut [u8], at: usize, size: u16, kind: u16, a: u16)
-    requires { at + 6 ≤ length answer.old }
-    ensures { Extends at (at + 6) (bytes_of (size ∷ kind ∷ a ∷ [])) answer.old answer.new }
+// The words that each record begins with: its length and its kind.
+fn put_start(answer: &mut [u8], at: usize, size: u16, kind: u16)
+    requires { at + 4 ≤ length answer.old }
+    ensures { Extends at (at + 4) (bytes_of (size ∷ kind ∷ [])) answer.old answer.new }
 {
     words::put_word(answer, at, size);
     words::put_word(answer, at + 2, kind);
+}
+
+// A record with one field, and one with two; the place behind it.
+fn put_one(answer: &mut [u8], at: usize, kind: u16, a: u16) -> usize
+    requires { at + 6 ≤ length answer.old }
+    ensures { Extends at result (record_of kind (a ∷ [])) answer.old answer.new }
+{
+    put_start(answer, at, 6, kind);
     words::put_word(answer, at + 4, a);
-}
-
-// How long a type record is: an element, a pair and a union have two fields, the others one.
-fn size_of(kind: u16) -> usize
-    requires { Recorded kind }
-    ensures { (a b : Prim.Native.Nat.ℕ) → result ≡ length (type_record (entry_of kind a b)) }
-{
-    if kind < 6 {
-        return 8;
-    }
-    6
-}
-
-// A type record; the place behind it.
-fn put_type(answer: &mut [u8], at: usize, kind: u16, a: u16, b: u16) -> usize
-    requires fact_1 { Recorded kind }
-    requires fact_2 { at + length (type_record (entry_of kind a b)) ≤ length answer.old }
-    ensures { Extends at result (type_record (entry_of kind a b)) answer.old answer.new }
-{
-    if kind < 6 {
-        put_start(answer, at, 8, kind, a);
-        words::put_word(answer, at + 6, b);
-        return at + 8;
-    }
-    put_start(answer, at, 6, kind, a);
     at + 6
 }
 
+fn put_two(answer: &mut [u8], at: usize, kind: u16, a: u16, b: u16) -> usize
+    requires { at + 8 ≤ length answer.old }
+    ensures { Extends at result (record_of kind (a ∷ b ∷ [])) answer.old answer.new }
+{
+    put_start(answer, at, 8, kind);
+    words::put_word(answer, at + 4, a);
+    words::put_word(answer, at + 6, b);
+    at + 8
+}
+
+// How long a type record is.
+#[tactic(auto, unfolding(meaning::specs::Base::bytes_of, meaning::specs::Types::fields_of))]
+fn size_of(x: Ty) -> usize
+    ensures { result ≡ length (type_record (shown x)) }
+{
+    match x {
+        Ty::Empty | Ty::Text => 4,
+        Ty::Element(_, _) | Ty::Pair(_, _) | Ty::Union(_, _) => 8,
+        Ty::Star(_) | Ty::Plus(_) | Ty::Opt(_) | Ty::Name(_) => 6,
+    }
+}
+
+// A type record; the place behind it.
+fn put_type(answer: &mut [u8], at: usize, x: Ty) -> usize
+    requires { at + length (type_record (shown x)) ≤ length answer.old }
+    ensures { Extends at result (type_record (shown x)) answer.old answer.new }
+{
+    let kind = x.kind();
+    match x {
+        Ty::Empty | Ty::Text => {
+            put_start(answer, at, 4, kind);
+            at + 4
+        }
+        Ty::Element(a, b) | Ty::Pair(a, b) | Ty::Union(a, b) => put_two(answer, at, kind, a, b),
+        Ty::Star(a) | Ty::Plus(a) | Ty::Opt(a) | Ty::Name(a) => put_one(answer, at, kind, a),
+    }
+}
+
 // How long the type records are.
-fn types_size(types: &[u16], count: usize) -> usize
-    requires { Typed types.now count }
-    ensures { result ≡ length (type_bytes (table_of types.now count)) }
+fn types_size(types: &Types) -> usize
+    requires { Typed types.now }
+    ensures { result ≡ length (type_bytes types.now) }
 {
     let mut n = 0;
-    let mut i = 2;
-    while i < count {
-        let x = words::read_entry(types, i);
-        n += size_of(x.kind);
-        i += 1;
+    for i in 2..types.len() {
+        n += size_of(types.get(i));
     }
     n
 }
 
 // The type records, from the front; the place behind them.
-fn put_types(types: &[u16], count: usize, answer: &mut [u8]) -> usize
-    requires fact_1 { Typed types.now count }
-    requires fact_2 { length (type_bytes (table_of types.now count)) ≤ length answer.old }
-    ensures { Extends 0 result (type_bytes (table_of types.now count)) answer.old answer.new }
+fn put_types(types: &Types, answer: &mut [u8]) -> usize
+    requires typed { Typed types.now }
+    requires room { length (type_bytes types.now) ≤ length answer.old }
+    ensures { Extends 0 result (type_bytes types.now) answer.old answer.new }
 {
     let mut at = 0;
-    let mut e = 2;
-    while e < count {
-        let x = words::read_entry(types, e);
-        at = put_type(answer, at, x.kind, x.a, x.b);
-        e += 1;
+    for e in 2..types.len() {
+        at = put_type(answer, at, types.get(e));
     }
     at
 }
 
 // The definition records; the place behind them.
-fn put_defs(defs: &[u16], used: usize, answer: &mut [u8], from: usize) -> usize
-    requires fact_1 { used ≤ length defs.now }
-    requires fact_2 { from + 6 * used ≤ length answer.old }
-    ensures { Extends from result (def_bytes (take used defs.now)) answer.old answer.new }
+fn put_defs(defs: &[u16], answer: &mut [u8], from: usize) -> usize
+    requires { from + 6 * length defs.now ≤ length answer.old }
+    ensures { Extends from result (def_bytes defs.now) answer.old answer.new }
 {
     let mut at = from;
-    let mut left = used;
-    while 0 < left {
-        put_start(answer, at, 6, 16, defs[used - left]);
-        at += 6;
-        left -= 1;
+    for d in defs {
+        at = put_one(answer, at, 16, *d);
     }
     at
 }
 
 // The file, from the front of a buffer that has room for it.
-fn put_file(types: &[u16], count: usize, defs: &[u16], used: usize, res: u16, answer: &mut [u8])
-    requires fact_1 { Ready types.now count defs.now used res }
-    requires fact_2 { length (answer_file (table_of types.now count) (take used defs.now) res) ≤ length answer.old }
-    ensures { Extends 0 (length (answer_file (table_of types.now count) (take used defs.now) res)) (answer_file (table_of types.now count) (take used defs.now) res) answer.old answer.new }
+fn put_file(types: &Types, defs: &[u16], res: u16, answer: &mut [u8])
+    requires ready { Ready types.now defs.now res }
+    requires room { length (answer_file types.now defs.now res) ≤ length answer.old }
+    ensures { Extends 0 (length (answer_file types.now defs.now res)) (answer_file types.now defs.now res) answer.old answer.new }
 {
-    let from = put_types(types, count, answer);
-    let last = put_defs(defs, used, answer, from);
-    put_start(answer, last, 6, 80, res);
+    let from = put_types(types, answer);
+    let last = put_defs(defs, answer, from);
+    put_one(answer, last, 80, res);
 }
 
-// Writes an answer file into a lent buffer of any length, with zeros after it; where it is too short, zeros everywhere.
-pub fn write(
-    types: &[u16],
-    count: usize,
-    defs: &[u16],
-    used: usize,
-    res: usize,
-    answer: &mut [u8],
-) -> Written
-    requires { Ready types.now count defs.now used res }
-    ensures { Left (length answer.old) result answer.new (fitted (length answer.old) (answer_file (table_of types.now count) (take used defs.now) res)) }
+// Writes an answer file into a lent buffer of any length, with zeros after it, and answers its length; where the buffer is too short, zeros everywhere.
+pub fn write(types: &Types, defs: &[u16], res: usize, answer: &mut [u8]) -> Result<usize, Refusal>
+    requires { Ready types.now defs.now res }
+    ensures { Left (length answer.old) result answer.new (fitted (length answer.old) (answer_file types.now defs.now res)) }
 {
-    let needed = types_size(types, count) + 6 * used + 6;
+    let needed = types_size(types) + 6 * defs.len() + 6;
     if answer.len() < needed {
         words::clear_bytes(answer, 0);
-        return Written::Short(needed);
+        return Err(Refusal {
+            reason: Reason::AnswerShort,
+            place: needed,
+        });
     }
-    put_file(types, count, defs, used, res as u16, answer);
+    put_file(types, defs, res as u16, answer);
     words::clear_bytes(answer, needed);
-    Written::Bytes(needed)
+    Ok(needed)
 }

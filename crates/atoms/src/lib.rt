@@ -2,134 +2,88 @@
 // shared many times over costs no more than one; a second pass looks for the first variable.
 #![tactic(auto)]
 
-ghost use Rattle.std.specs.Prelude.{◌≡◌, ◌&&◌, ℕ, ◌*◌, ◌≤◌, ◌<◌, eqb, length, get_or};
-ghost use Rattle.meaning.specs.Base.{At};
-ghost use Rattle.meaning.specs.Kinds.{type·union};
-ghost use Rattle.meaning.specs.Types.{Table, Defs, entry_of};
-ghost use Rattle.meaning.specs.Shapes.{shape, is_atoms};
+ghost use Rattle.std.specs.Prelude.{◌≡◌, ℕ, ◌≤◌, ◌<◌, length};
+ghost use Rattle.meaning.specs.Types.{Table, Defs};
 ghost use Rattle.meaning.specs.Records.{var_of};
 ghost use Rattle.meaning.specs.Formed.{Formed};
 ghost use Rattle.meaning.specs.Checks.{is_tangled, tangled};
-ghost use Rattle.words.specs.Tables.{table_of, vars_of};
 ghost use Rattle.words.specs.Says.{found};
-ghost use Rattle.atoms.specs.Marks.{Marked, Typed, Scoped};
+ghost use Rattle.entries.specs.Says.{shown};
+ghost use Rattle.atoms.specs.Marks.{Parts, mark_of, Marked, Typed, Scoped};
 
-// The mark of a union: 1 if both parts are marked.
-fn both(marks: &[u16], a: usize, b: usize) -> u16
-    requires fact_1 { a < length marks.now }
-    requires fact_2 { b < length marks.now }
-    ensures { eqb result 1 ≡ eqb (get_or marks.now a 0) 1 && eqb (get_or marks.now b 0) 1 }
-{
-    if marks[a] == 1 {
-        return marks[b];
-    }
-    0
-}
+use entries::Ty;
+use tables::{Types, Vars};
 
-// The mark of an entry, when all lower ones have theirs: a union goes by its parts; String and an element have nothing but one atom; others 0.
-fn mark(kind: u16, a: u16, b: u16, marks: &[u16]) -> u16
-    requires { kind ≡ type·union → (a < length marks.now) × (b < length marks.now) }
-    ensures { (D : Defs) (T : Table) (e : ℕ) → Formed D T → At T e (entry_of kind a b) → Marked D T e marks.now → eqb result 1 ≡ is_atoms (shape D T e) }
+// Whether an entry has nothing but unions of atoms, when all lower ones are marked: a union goes by its parts; text and an element are one atom.
+fn has_only_atoms(x: Ty, marks: &[bool]) -> bool
+    requires { Parts (length marks.now) (shown x) }
+    ensures { result ≡ mark_of marks.now (shown x) }
 {
-    let is_union = kind == 5;
-    if is_union {
-        return both(marks, words::wide(a), words::wide(b));
+    match x {
+        Ty::Text | Ty::Element(_, _) => true,
+        Ty::Union(a, b) => marks[usize::from(a)] && marks[usize::from(b)],
+        _ => false,
     }
-    if kind == 2 {
-        return 1;
-    }
-    if kind == 3 {
-        return 1;
-    }
-    0
 }
 
 // The marks of all entries.
-fn mark_atoms(types: &[u16], count: usize, marks: &mut [u16])
-    requires fact_1 { Typed types.now count }
-    requires fact_2 { count ≤ length marks.old }
-    ensures { (D : Defs) → Formed D (table_of types.now count) → Marked D (table_of types.now count) count marks.new }
+fn mark_atoms(types: &Types, marks: &mut [bool])
+    requires typed { Typed types.now }
+    requires room { length types.now ≤ length marks.old }
+    ensures { (D : Defs) → Formed D types.now → Marked D types.now (length types.now) marks.new }
 {
-    let mut e = 0;
-    while e < count {
-        let x = words::read_entry(types, e);
-        let m = mark(x.kind, x.a, x.b, marks);
-        marks[e] = m;
-        e += 1;
+    for e in 0..types.len() {
+        marks[e] = has_only_atoms(types.get(e), marks);
     }
 }
 
 // Whether a variable is a tree variable, 17, whose type is not marked.
-fn is_tangled(kind: u16, e: usize, marks: &[u16]) -> bool
+fn is_tangled(kind: u16, e: usize, marks: &[bool]) -> bool
     requires { e < length marks.now }
     ensures { (D : Defs) (T : Table) (n : ℕ) → Marked D T n marks.now → e < n → result ≡ is_tangled D T (var_of kind e) }
 {
     let is_tree = kind == 17;
-    if is_tree {
-        return marks[e] != 1;
-    }
-    false
+    is_tree && !marks[e]
 }
 
 // The number of the first such variable.
-fn first_tangled(vars: &[u16], declared: usize, marks: &[u16]) -> words::Found
-    requires fact_1 { 3 * declared ≤ length vars.now }
-    requires fact_2 { Scoped (length marks.now) (vars_of vars.now declared) }
-    ensures { (D : Defs) (T : Table) (n : ℕ) → Marked D T n marks.now → Scoped n (vars_of vars.now declared) → found result ≡ tangled D T (vars_of vars.now declared) }
+fn first_tangled(vars: &Vars, marks: &[bool]) -> Option<usize>
+    requires scoped { Scoped (length marks.now) vars.now }
+    ensures { (D : Defs) (T : Table) (n : ℕ) → Marked D T n marks.now → Scoped n vars.now → found result ≡ tangled D T vars.now }
 {
-    let mut i = 0;
-    while i < declared {
-        let x = words::read_entry(vars, i);
-        if is_tangled(x.kind, words::wide(x.b), marks) {
-            return words::Found::At(words::wide(x.a));
+    for i in 0..vars.len() {
+        let x = vars.get(i);
+        if is_tangled(x.kind, usize::from(x.b), marks) {
+            return Some(usize::from(x.a));
         }
-        i += 1;
     }
-    words::Found::Nowhere
+    None
 }
 
-// 11: the first declared tree variable whose type has other than unions of atoms. `marks` has room for a mark of each entry.
-fn tangled_within(
-    types: &[u16],
-    count: usize,
-    vars: &[u16],
-    declared: usize,
-    marks: &mut [u16],
-) -> words::Found
-    requires fact_1 { Typed types.now count }
-    requires fact_2 { count ≤ length marks.old }
-    requires fact_3 { 3 * declared ≤ length vars.now }
-    requires fact_4 { Scoped count (vars_of vars.now declared) }
-    ensures { (D : Defs) → Formed D (table_of types.now count) → found result ≡ tangled D (table_of types.now count) (vars_of vars.now declared) }
+// The first declared tree variable whose type has other than unions of atoms, with marks for so many entries: clearing them is most of what a small
+// table costs.
+fn tangled_of<const N: usize>(types: &Types, vars: &Vars) -> Option<usize>
+    requires typed { Typed types.now }
+    requires few { length types.now ≤ N }
+    requires most { N ≤ 4096 }
+    requires scoped { Scoped (length types.now) vars.now }
+    ensures { (D : Defs) → Formed D types.now → found result ≡ tangled D types.now vars.now }
 {
-    mark_atoms(types, count, marks);
-    first_tangled(vars, declared, marks)
+    let mut marks = [false; N];
+    mark_atoms(types, &mut marks);
+    first_tangled(vars, &marks)
 }
 
-// The same with marks for 256 entries, and for 4,096: clearing them is most of what a small table costs.
-fn tangled_of_few(types: &[u16], count: usize, vars: &[u16], declared: usize) -> words::Found
-    requires { (Typed types.now count) × ((count ≤ 256) × ((3 * declared ≤ length vars.now) × (Scoped count (vars_of vars.now declared)))) }
-    ensures { (D : Defs) → Formed D (table_of types.now count) → found result ≡ tangled D (table_of types.now count) (vars_of vars.now declared) }
+// 11, with as many marks as the table needs.
+pub fn tangled(types: &Types, vars: &Vars) -> Option<usize>
+    requires typed { Typed types.now }
+    requires few { length types.now ≤ 4096 }
+    requires scoped { Scoped (length types.now) vars.now }
+    ensures { (D : Defs) → Formed D types.now → found result ≡ tangled D types.now vars.now }
 {
-    let mut marks = [0u16; 256];
-    tangled_within(types, count, vars, declared, &mut marks)
-}
-
-fn tangled_of_many(types: &[u16], count: usize, vars: &[u16], declared: usize) -> words::Found
-    requires { (Typed types.now count) × ((count ≤ 4096) × ((3 * declared ≤ length vars.now) × (Scoped count (vars_of vars.now declared)))) }
-    ensures { (D : Defs) → Formed D (table_of types.now count) → found result ≡ tangled D (table_of types.now count) (vars_of vars.now declared) }
-{
-    let mut marks = [0u16; 4096];
-    tangled_within(types, count, vars, declared, &mut marks)
-}
-
-// The same, with as many marks as the table needs.
-pub fn tangled(types: &[u16], count: usize, vars: &[u16], declared: usize) -> words::Found
-    requires { (Typed types.now count) × ((count ≤ 4096) × ((3 * declared ≤ length vars.now) × (Scoped count (vars_of vars.now declared)))) }
-    ensures { (D : Defs) → Formed D (table_of types.now count) → found result ≡ tangled D (table_of types.now count) (vars_of vars.now declared) }
-{
+    let count = types.len();
     if count <= 256 {
-        return tangled_of_few(types, count, vars, declared);
+        return tangled_of::<256>(types, vars);
     }
-    tangled_of_many(types, count, vars, declared)
+    tangled_of::<4096>(types, vars)
 }

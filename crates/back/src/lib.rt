@@ -2,110 +2,64 @@
 #![tactic(auto)]
 
 ghost use Rattle.std.specs.Prelude.{◌≡◌, length};
-ghost use Rattle.meaning.specs.Base.{refused, caps_of};
+ghost use Rattle.meaning.specs.Base.{caps_of};
 ghost use Rattle.meaning.specs.Answers.{read_answer};
-ghost use Rattle.back.specs.Says.{back_of, verdict, Ready, judged, Left, Settled};
+ghost use Rattle.refusals.specs.Says.{told};
+ghost use Rattle.back.specs.Says.{Ready, judged, Left, Settled};
 
-use guard::Checked;
-use reading::{Given, Reading};
+use reading::{Given, Read};
+use refusals::{Reason, Refusal};
+use tables::Types;
 
-// The result entry, and how many type entries an accepted file has; or its refusal.
-#[derive(Drop)]
-pub enum Answer {
-    Accepted { result: usize, types: usize },
-    Refused { number: u16, place: usize },
-}
-
-// The answer, with the definitions.
-#[derive(Drop)]
+// The result entry, and how many type entries a file has, with the definitions.
+#[derive(Clone, Copy)]
 pub struct Back {
-    pub answer: Answer,
+    pub result: usize,
+    pub types: usize,
     pub given: Given,
 }
 
-// Nothing to refuse, or a refusal's number and place.
-#[derive(Drop)]
-enum Verdict {
-    Passed,
-    Refused { number: u16, place: usize },
-}
-
-// A refusal, with nothing beside it.
-fn refusal(number: u16, place: usize) -> Back
-    ensures { result ≡ back_of (refused number place) }
+// The result entry: 8 in a file of so many bytes that has no record 80, then 9 and 10.
+fn judge(bytes: usize, types: &[u16], read: &Read) -> Result<usize, Refusal>
+    requires { Ready types.now read.now.types read.now.given }
+    ensures { told result ≡ judged bytes read.now.result types.now read.now.types read.now.given }
 {
-    let given = reading::nothing_given();
-    let answer = Answer::Refused { number, place };
-    Back { answer, given }
-}
-
-// 8 in a file of so many bytes that has no record 80, then 9 and 10.
-fn judge(bytes: usize, ended: bool, types: &[u16], count: usize, given: Given) -> Verdict
-    requires { Ready types.now count given }
-    ensures { verdict result ≡ judged bytes ended types.now count given }
-{
-    if !ended {
-        return Verdict::Refused {
-            number: 8,
+    let Some(result) = read.result else {
+        return Err(Refusal {
+            reason: Reason::NoQuery,
             place: bytes,
-        };
-    }
-    let defs = given.defs;
-    match guard::check_types(types, count, &defs, given.used) {
-        Checked::Sound => Verdict::Passed,
-        Checked::Undefined(e) => Verdict::Refused {
-            number: 9,
-            place: e,
-        },
-        Checked::Circle(d) => Verdict::Refused {
-            number: 10,
-            place: d,
-        },
-    }
+        });
+    };
+    let known = Types::new(types, read.types);
+    let defs = &read.given.defs[..read.given.used];
+    guard::check_types(&known, defs)?;
+    Ok(usize::from(result))
 }
 
-// The answer over what was read: it passes and stays, or the table is cleared.
-fn settle(
-    bytes: usize,
-    ended: bool,
-    res: u16,
-    types: &mut [u16],
-    count: usize,
-    given: Given,
-) -> Back
-    requires { Ready types.old count given }
-    ensures { Settled bytes ended res types.old count given result types.new }
+// The file that was read: it passes and stays, or the table is cleared.
+fn settle(bytes: usize, types: &mut [u16], read: Read) -> Result<Back, Refusal>
+    requires { Ready types.old read.types read.given }
+    ensures { Settled bytes read types.old result types.new }
 {
-    match judge(bytes, ended, types, count, given) {
-        Verdict::Passed => {
-            let answer = Answer::Accepted {
-                result: words::wide(res),
-                types: count,
-            };
-            Back { answer, given }
-        }
-        Verdict::Refused { number, place } => {
+    let count = read.types;
+    match judge(bytes, types, &read) {
+        Ok(result) => Ok(Back {
+            result,
+            types: count,
+            given: read.given,
+        }),
+        Err(refusal) => {
             words::clear_entries(types, count);
-            refusal(number, place)
+            Err(refusal)
         }
     }
 }
 
 // Reads an answer file into a lent table: of any bytes, and of any length. A refusal leaves every word of it zero.
-pub fn read_answer(file: &[u8], types: &mut [u16]) -> Back
+pub fn read_answer(file: &[u8], types: &mut [u16]) -> Result<Back, Refusal>
     ensures { Left (length types.old) result types.new (read_answer (caps_of (length types.old) 0) file.now) }
 {
     let mut none = [0u16; 0];
-    let read = reading::read_records(records::File::Answer, file, types, &mut none);
-    let answer = read.answer;
-    let given = read.given;
-    match answer {
-        Reading::Refused { number, place } => refusal(number, place),
-        Reading::Done {
-            types: count,
-            nodes: _,
-            ended,
-            result,
-        } => settle(file.len(), ended, result, types, count, given),
-    }
+    let read = reading::read_records(records::File::Answer, file, types, &mut none)?;
+    settle(file.len(), types, read)
 }

@@ -11,7 +11,7 @@ use native.Mathlib.Decide.{ℕ_discrete}
 use borrow.Author.Tests.{ne_eqb, eqb-true}
 use lib.Dec.{eqb}
 use lib.ListN.{length, get_or, set, take, drop, length-set, get_or-replicate, get_or-append}
-use lib.Seq.{get_or-set_same, get_or-set_other, length-take-le, length_front}
+use lib.Seq.{get_or-set_same, get_or-set_other, length-take-le}
 use Rattle.meaning.specs.Base.{zeros}
 use Rattle.meaning.specs.Types.{Table, Defs}
 use Rattle.meaning.specs.Formed.{Formed}
@@ -30,9 +30,6 @@ code_some more h = omega arith
 code_some any h = omega arith
 
 -- words whose first n are cleared
-pub blank_long : (cs ys : List ℕ) (n : ℕ) → n ≤ length cs → ys ≡ zeros (length (take n cs)) → length (ys ++ drop n cs) ≡ length cs
-blank_long cs ys n l q = length_front cs ys n (ap length q ∙ zeros_length (length (take n cs)))
-
 blank_front : (cs ys : List ℕ) (n : ℕ) → n ≤ length cs → ys ≡ zeros (length (take n cs)) → (i : ℕ) → i < n → get_or (ys ++ drop n cs) i 0 ≡ 0
 unfolding zeros
 blank_front cs ys n l q i h =
@@ -118,9 +115,6 @@ module _ (D : Defs) (T : Table) where
   pub climbing_start : (cs bs : List ℕ) (root : ℕ) → root < length T → length T ≤ length bs → Sound D T cs → Climbing cs (set bs root root) cs (set bs root root) root root
   climbing_start cs bs root l room s =
       record { long = refl; ways = refl; low = l; sound = s; kept = λ i h. h; linked = λ z. top l z (get_or-set_same bs root root 0 (omega arith)) refl }
-
-  pub climbing_end : {before was cs bs : List ℕ} {root e : ℕ} → Climbing before was cs bs root e → get_or cs root 0 ≢ 0 → Climbed D T before cs root
-  climbing_end g h = record { sound = g.sound; kept = g.kept; here = h }
 
   module _ (F : Formed D T) {before was cs bs ds ws : List ℕ} {root e x : ℕ} (g : Climbing before was cs bs root e) (z : get_or cs root 0 ≡ 0) (room : length T ≤ length cs) (wide : length T ≤ length bs) where
     -- down

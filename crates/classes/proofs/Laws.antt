@@ -1,8 +1,7 @@
 -- The class of an entry from those of its parts, for each kind; of an entry of a table, and of one that is appended.
 -- Assumes nothing.
 use mathlib.Core.Path.{◌≡◌, refl, sym, ap, ◌∙◌}
-use mathlib.Core.Bool.{Bool, true, false}
-use mathlib.Core.Logic.{◌≢◌}
+use mathlib.Core.Bool.{false}
 use mathlib.Core.Option.{none}
 use mathlib.Core.List.{List, [], ◌∷◌, ◌++◌}
 use Prim.Native.Nat.{ℕ, ◌<◌}
@@ -13,14 +12,12 @@ use Rattle.meaning.specs.Types as Types
 use Rattle.meaning.specs.Types.{Entry, Table, Defs, entry_of, name_of, at}
 use Rattle.meaning.specs.Reach.{steps_of}
 use Rattle.meaning.specs.Formed.{Lower, Formed}
-use Rattle.meaning.specs.Shapes as Shapes
 use Rattle.meaning.specs.Shapes.{Class, one, maybe, more, any, allowing, either, comma, bar, dot, expand, shape, quant}
 use Rattle.meaning.proofs.Lists.{absurd_option, at_get_or, at_last, grows_one}
 use Rattle.meaning.proofs.Guard.{Goes, part, defn, lower_goes}
 use Rattle.meaning.proofs.Shapes.{shape_law, shape_grows}
 use Rattle.meaning.proofs.Grow.{formed_append}
 use Rattle.classes.specs.Classes.{code_of, class_of, Right, Filled, Parts, From}
-use Rattle.words.proofs.Entries.{Kinded, kinded, is_string, is_element, is_pair, is_union, is_star, is_plus, is_opt, is_name, is_other, kind_string, kind_element, kind_pair, kind_union, kind_star, kind_plus, kind_opt}
 
 -- CODES
 pub class_code : (q : Class) → class_of (code_of q) ≡ q
@@ -30,20 +27,6 @@ class_code maybe = refl
 class_code more = refl
 class_code any = refl
 
-pub none_allowing : (n m : Bool) → Shapes.none (allowing n m) ≡ n
-unfolding Shapes.none allowing
-none_allowing true true = refl
-none_allowing true false = refl
-none_allowing false true = refl
-none_allowing false false = refl
-
-pub many_allowing : (n m : Bool) → Shapes.many (allowing n m) ≡ m
-unfolding Shapes.many allowing
-many_allowing true true = refl
-many_allowing true false = refl
-many_allowing false true = refl
-many_allowing false false = refl
-
 -- the class that a word means
 pub of_code : {x : ℕ} (p : Class) → x ≡ code_of p → class_of x ≡ p
 of_code p h = ap class_of h ∙ class_code p
@@ -52,57 +35,46 @@ pub code_more : (q : Class) → code_of q ≡ 3 → q ≡ more
 unfolding class_of allowing
 code_more q p = sym (of_code q (sym p))
 
-comma_code : {x y : ℕ} (p q : Class) → x ≡ code_of p → y ≡ code_of q → code_of (comma (class_of x) (class_of y)) ≡ code_of (comma p q)
-comma_code p q h g = rw (of_code p h, of_code q g)
+-- KIND BY KIND, where p and q are the classes that the parts' words mean
+module _ {cs : List ℕ} where
+  pub from_empty : From cs Types.empty (code_of maybe)
+  unfolding expand quant
+  from_empty = record { is = λ D T e n h. refl }
 
-either_code : {x y : ℕ} (p q : Class) → x ≡ code_of p → y ≡ code_of q → code_of (either (class_of x) (class_of y)) ≡ code_of (either p q)
-either_code p q h g = rw (of_code p h, of_code q g)
+  pub from_string : From cs Types.string (code_of one)
+  unfolding expand quant
+  from_string = record { is = λ D T e n h. refl }
 
-none_from : (cs : List ℕ) {k a b : ℕ} {x : Entry} → k ≢ 2 → k ≢ 3 → k ≢ 4 → k ≢ 5 → k ≢ 6 → k ≢ 7 → k ≢ 8 → Kinded k a b x → From cs x 2
-unfolding expand quant code_of name_of
-none_from cs n2 n3 n4 n5 n6 n7 n8 (is_string p) = absurd (n2 p)
-none_from cs n2 n3 n4 n5 n6 n7 n8 (is_element p) = absurd (n3 p)
-none_from cs n2 n3 n4 n5 n6 n7 n8 (is_pair p) = absurd (n4 p)
-none_from cs n2 n3 n4 n5 n6 n7 n8 (is_union p) = absurd (n5 p)
-none_from cs n2 n3 n4 n5 n6 n7 n8 (is_star p) = absurd (n6 p)
-none_from cs n2 n3 n4 n5 n6 n7 n8 (is_plus p) = absurd (n7 p)
-none_from cs n2 n3 n4 n5 n6 n7 n8 (is_opt p) = absurd (n8 p)
-none_from cs n2 n3 n4 n5 n6 n7 n8 (is_name p) = record { is = λ D T e n. absurd_option (sym n) }
-none_from cs n2 n3 n4 n5 n6 n7 n8 (is_other o) = record { is = λ D T e n h. refl }
+  pub from_element : {l c : ℕ} → From cs (Types.element l c) (code_of one)
+  unfolding expand quant
+  from_element = record { is = λ D T e n h. refl }
 
--- KIND BY KIND, where r is what the code makes of the parts' words
-module _ (cs : List ℕ) {k : ℕ} (a b : ℕ) where
-  pub from_string : k ≡ 2 → From cs (entry_of k a b) 1
-  unfolding expand quant code_of
-  from_string p = rw (kind_string a b p) (record { is = λ D T e n h. refl })
+  -- a name has no class of its own
+  pub from_name : {d : ℕ} (r : ℕ) → From cs (Types.name d) r
+  unfolding name_of
+  from_name r = record { is = λ D T e n. absurd_option (sym n) }
 
-  pub from_element : k ≡ 3 → From cs (entry_of k a b) 1
-  unfolding expand quant code_of
-  from_element p = rw (kind_element a b p) (record { is = λ D T e n h. refl })
+  module _ {a : ℕ} {p : Class} (first_is : p ≡ class_of (get_or cs a 0)) where
+    pub from_star : {r : Class} → r ≡ either p any → From cs (Types.star a) (code_of r)
+    unfolding expand quant steps_of dot
+    from_star q = record { is = λ D T e n h. ap code_of (q ∙ ap (λ c. either c any) (first_is ∙ of_code _ (h a first))) }
 
-  pub from_pair : {r : ℕ} → k ≡ 4 → r ≡ code_of (comma (class_of (get_or cs a 0)) (class_of (get_or cs b 0))) → From cs (entry_of k a b) r
-  unfolding expand quant steps_of
-  from_pair p q = rw (kind_pair a b p) (record { is = λ D T e n h. q ∙ comma_code (quant (shape D T a)) (quant (shape D T b)) (h a first) (h b (later first)) })
+    pub from_plus : {r : Class} → r ≡ either p more → From cs (Types.plus a) (code_of r)
+    unfolding expand quant steps_of dot
+    from_plus q = record { is = λ D T e n h. ap code_of (q ∙ ap (λ c. either c more) (first_is ∙ of_code _ (h a first))) }
 
-  pub from_union : {r : ℕ} → k ≡ 5 → r ≡ code_of (either (class_of (get_or cs a 0)) (class_of (get_or cs b 0))) → From cs (entry_of k a b) r
-  unfolding expand quant steps_of bar
-  from_union p q = rw (kind_union a b p) (record { is = λ D T e n h. q ∙ either_code (quant (shape D T a)) (quant (shape D T b)) (h a first) (h b (later first)) })
+    pub from_opt : {r : Class} → r ≡ either p maybe → From cs (Types.opt a) (code_of r)
+    unfolding expand quant steps_of dot
+    from_opt q = record { is = λ D T e n h. ap code_of (q ∙ ap (λ c. either c maybe) (first_is ∙ of_code _ (h a first))) }
 
-  pub from_star : {r : ℕ} → k ≡ 6 → r ≡ code_of (either (class_of (get_or cs a 0)) (class_of 4)) → From cs (entry_of k a b) r
-  unfolding expand quant steps_of dot code_of
-  from_star p q = rw (kind_star a b p) (record { is = λ D T e n h. q ∙ either_code (quant (shape D T a)) any (h a first) refl })
+    module _ {b : ℕ} {o : Class} (second_is : o ≡ class_of (get_or cs b 0)) where
+      pub from_pair : {r : Class} → r ≡ comma p o → From cs (Types.pair a b) (code_of r)
+      unfolding expand quant steps_of
+      from_pair q = record { is = λ D T e n h. ap code_of (q ∙ (λ i. comma ((first_is ∙ of_code _ (h a first)) i) ((second_is ∙ of_code _ (h b (later first))) i))) }
 
-  pub from_plus : {r : ℕ} → k ≡ 7 → r ≡ code_of (either (class_of (get_or cs a 0)) (class_of 3)) → From cs (entry_of k a b) r
-  unfolding expand quant steps_of dot code_of
-  from_plus p q = rw (kind_plus a b p) (record { is = λ D T e n h. q ∙ either_code (quant (shape D T a)) more (h a first) refl })
-
-  pub from_opt : {r : ℕ} → k ≡ 8 → r ≡ code_of (either (class_of (get_or cs a 0)) (class_of 2)) → From cs (entry_of k a b) r
-  unfolding expand quant steps_of dot code_of
-  from_opt p q = rw (kind_opt a b p) (record { is = λ D T e n h. q ∙ either_code (quant (shape D T a)) maybe (h a first) refl })
-
-  -- of a number that is no kind, or 1
-  pub from_none : k ≢ 2 → k ≢ 3 → k ≢ 4 → k ≢ 5 → k ≢ 6 → k ≢ 7 → k ≢ 8 → From cs (entry_of k a b) 2
-  from_none n2 n3 n4 n5 n6 n7 n8 = none_from cs n2 n3 n4 n5 n6 n7 n8 (kinded k a b)
+      pub from_union : {r : Class} → r ≡ either p o → From cs (Types.union a b) (code_of r)
+      unfolding expand quant steps_of bar
+      from_union q = record { is = λ D T e n h. ap code_of (q ∙ (λ i. either ((first_is ∙ of_code _ (h a first)) i) ((second_is ∙ of_code _ (h b (later first))) i))) }
 
 -- AN ENTRY OF A TABLE
 module _ (D : Defs) (T : Table) (F : Formed D T) (cs : List ℕ) (e : ℕ) (l : e < length T) where

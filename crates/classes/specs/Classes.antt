@@ -1,13 +1,13 @@
 -- The array of classes, one word for each type entry: what a word means, when it is its entry's class, and what filling asks and does.
 -- Assumes nothing.
-use Rattle.std.specs.Prelude.{◌≡◌, false, ◌||◌, List, ℕ, ◌*◌, ◌<◌, ◌≤◌, eqb, length, get_or}
+use Rattle.std.specs.Prelude.{◌≡◌, false, ◌||◌, List, ℕ, ◌<◌, ◌≤◌, eqb, length, get_or}
 use Rattle.std.proofs.Math.Option.{none}
-use Rattle.meaning.specs.Base.{In, type_width}
+use Rattle.meaning.specs.Base.{In}
 use Rattle.meaning.specs.Types.{Entry, Table, Defs, name_of}
 use Rattle.meaning.specs.Reach.{steps_of}
 use Rattle.meaning.specs.Formed.{Formed}
 use Rattle.meaning.specs.Shapes.{Class, one, maybe, more, any, allowing, expand, shape, quant}
-use Rattle.words.specs.Tables.{table_of}
+use Rattle.classes.specs.declared.Class.{Class as Code}
 
 -- the words of the classes 1, ?, + and *; and back
 unfoldable pub code_of : Class → ℕ
@@ -18,6 +18,13 @@ code_of any = 4
 
 unfoldable pub class_of : ℕ → Class
 class_of c = allowing (eqb c 2 || eqb c 4) (eqb c 3 || eqb c 4)
+
+-- the class that the code's enum is
+abbrev pub meant : Code → Class
+meant Code.One = one
+meant Code.Maybe = maybe
+meant Code.More = more
+meant Code.Any = any
 
 -- the word at entry e is its class
 abbrev pub Right : Defs → Table → List ℕ → ℕ → Type 0
@@ -35,8 +42,7 @@ Parts D T cs x = (i : ℕ) → In i (steps_of false D x) → Right D T cs i
 pub record From (cs : List ℕ) (x : Entry) (r : ℕ) : Type 0 where
   pub is : (D : Defs) (T : Table) (e : ℕ) → name_of x ≡ none → Parts D T cs x → r ≡ code_of (quant (expand D e (λ i. shape D T i) x))
 
--- what filling asks: n entries in the words ws, formed with the definitions D, and a word for each
-pub record Place (D : Defs) (ws : List ℕ) (n : ℕ) (cs : List ℕ) : Type 0 where
-  pub formed : Formed D (table_of ws n)
-  pub inside : type_width * n ≤ length ws
-  pub long : n ≤ length cs
+-- what filling asks: a table of types, formed with the definitions D, and a word for each of its entries
+pub record Place (D : Defs) (T : Table) (cs : List ℕ) : Type 0 where
+  pub formed : Formed D T
+  pub long : length T ≤ length cs

@@ -1,18 +1,27 @@
 -- Filling the array of classes, where 0 is a class that is not known yet: what an entry waits for, and what each step leaves.
 -- Assumes nothing.
-use Rattle.std.specs.Prelude.{◌≡◌, ◌≢◌, ◌⊎◌, false, List, ℕ, ◌<◌, length, get_or, set}
+use Rattle.std.specs.Prelude.{Option, Some, None, ◌≡◌, ◌≢◌, ◌⊎◌, Bool, true, false, List, ℕ, ◌<◌, length, get_or, set}
 use Rattle.meaning.specs.Base.{In}
-use Rattle.meaning.specs.Types.{Table, Defs, at}
+use Rattle.meaning.specs.Types.{Entry, Table, Defs, at, empty, string, element, pair, union, star, plus, opt, name}
 use Rattle.meaning.specs.Reach.{steps_of}
 use Rattle.meaning.specs.Shapes.{shape, quant}
-use Rattle.classes.specs.declared.Wait.{Wait}
-use Rattle.classes.specs.declared.Wait.TheVariants.{Nothing, Part}
 use Rattle.classes.specs.Classes.{code_of, Right}
 
+abbrev pub is_name : Entry → Bool
+is_name empty = false
+is_name string = false
+is_name (element l c) = false
+is_name (pair a b) = false
+is_name (union a b) = false
+is_name (star a) = false
+is_name (plus a) = false
+is_name (opt a) = false
+is_name (name d) = true
+
 -- what is lacking among the entries xs: one that has no class; or nothing, and each has one
-pub data Lacks (cs xs : List ℕ) : Wait → Type 0 where
-  nothing : ((i : ℕ) → In i xs → get_or cs i 0 ≢ 0) → Lacks cs xs Nothing
-  part : {x : ℕ} → In x xs → get_or cs x 0 ≡ 0 → Lacks cs xs (Part x)
+pub data Lacks (cs xs : List ℕ) : Option ℕ → Type 0 where
+  nothing : ((i : ℕ) → In i xs → get_or cs i 0 ≢ 0) → Lacks cs xs None
+  part : {x : ℕ} → In x xs → get_or cs x 0 ≡ 0 → Lacks cs xs (Some x)
 
 -- every class that is known is right
 pub record Sound (D : Defs) (T : Table) (cs : List ℕ) : Type 0 where

@@ -19,8 +19,13 @@ use Rattle.tokens.specs.declared.Placed.{Placed}
 use Rattle.tokens.specs.Says.{kind_of, Tells}
 use Rattle.steps.specs.Says.{Onward}
 use Rattle.steps.proofs.Choosing.{choose_first, choose_later, choose_none}
-use Rattle.steps.proofs.Expecting.{token_onward}
+use Rattle.steps.proofs.Expecting.{refusal, token_onward}
+use Rattle.refusals.specs.declared.Reason.{Reason}
+use Rattle.refusals.specs.declared.Refusal.{Refusal}
+use Rattle.std.specs.Prelude as Std
+use Rattle.rows.specs.declared.Part.{Part}
 use Rattle.conditions.specs.declared.Act.{Act}
+use Rattle.conditions.specs.declared.Waiting.{Waiting}
 use Rattle.conditions.specs.Frames.{equal_with, equal_to, equal_at, empty_at, close_at, Frame, denies, before, cont, under, Waits, Acted, refuses, more, Moves, Room, Builds, Leaf, Opens, full, room, Begins}
 use Rattle.conditions.proofs.Acting.{moves_lower, leaf_built}
 
@@ -40,7 +45,7 @@ module _ (s : List ℕ) (at : ℕ) {t : Placed} (tk : Tells (token_at s at) t) (
 
   -- NO CONDITION INSIDE
   leaf_begins : {deep low next nodes : ℕ} {code : List ℕ} (o : Here → Read Cond) → at < low → ((j n : ℕ) → cond_at s (suc j) deep (here at n) ≡ o (here next n))
-      → {r : Act} {u : List ℕ} → Leaf s low next code nodes o r u → Begins s at deep code nodes r u
+      → {r : Std.Result Act Refusal} {u : List ℕ} → Leaf s low next code nodes o r u → Begins s at deep code nodes r u
   leaf_begins {deep} o h is {r} {u} l =
       record {
         moves = moves_lower s r h l.moves;
@@ -48,7 +53,7 @@ module _ (s : List ℕ) (at : ℕ) {t : Placed} (tk : Tells (token_at s at) t) (
         is = λ j n base _ q f. subst (λ (x : Read Cond). Acted s (suc deep) n base u x r) (sym (is j n)) (l.is (suc deep) n base q f);
       }
 
-  pub begins_true : {deep nodes : ℕ} {code : List ℕ} → k ≡ Tokens.token·true → {r : Act} {u : List ℕ} → Builds t.next nodes (node Kinds.condition·true 0 0 0) code r u → Begins s at deep code nodes r u
+  pub begins_true : {deep nodes : ℕ} {code : List ℕ} → k ≡ Tokens.token·true → {r : Part} {u : List ℕ} → Builds t.next nodes (node Kinds.condition·true 0 0 0) code r u → Begins s at deep code nodes (Std.Ok (Act.Done r)) u
   unfolding cond_at cond_by cond_nodes
   begins_true p b =
       let on = next_inside (λ z. omega (arith, p, z)) in
@@ -56,7 +61,7 @@ module _ (s : List ℕ) (at : ℕ) {t : Placed} (tk : Tells (token_at s at) t) (
       (λ j n. hit _ _ _ p ∙ ap (λ (i : ℕ). one s always (here i n)) (sym tk.next))
       (leaf_built b s always on.1 (λ n. refl) (λ n. refl))
 
-  pub begins_false : {deep nodes : ℕ} {code : List ℕ} → k ≡ Tokens.token·false → {r : Act} {u : List ℕ} → Builds t.next nodes (node Kinds.condition·false 0 0 0) code r u → Begins s at deep code nodes r u
+  pub begins_false : {deep nodes : ℕ} {code : List ℕ} → k ≡ Tokens.token·false → {r : Part} {u : List ℕ} → Builds t.next nodes (node Kinds.condition·false 0 0 0) code r u → Begins s at deep code nodes (Std.Ok (Act.Done r)) u
   unfolding cond_at cond_by cond_nodes
   begins_false p b =
       let on = next_inside (λ z. omega (arith, p, z)) in
@@ -64,14 +69,14 @@ module _ (s : List ℕ) (at : ℕ) {t : Placed} (tk : Tells (token_at s at) t) (
       (λ j n. miss _ _ _ (λ q. omega (arith, p, q)) ∙ hit _ _ _ p ∙ ap (λ (i : ℕ). one s never (here i n)) (sym tk.next))
       (leaf_built b s never on.1 (λ n. refl) (λ n. refl))
 
-  pub begins_equal : {deep nodes : ℕ} {code : List ℕ} → k ≡ Tokens.token·dollar → {r : Act} {u : List ℕ} → Leaf s (suc at) at code nodes (equal_at s) r u → Begins s at deep code nodes r u
+  pub begins_equal : {deep nodes : ℕ} {code : List ℕ} → k ≡ Tokens.token·dollar → {r : Std.Result Act Refusal} {u : List ℕ} → Leaf s (suc at) at code nodes (equal_at s) r u → Begins s at deep code nodes r u
   unfolding cond_at cond_by equal_at equal_to equal_with
   begins_equal p l =
       leaf_begins (equal_at s) (omega arith)
       (λ j n. miss _ _ _ (λ q. omega (arith, p, q)) ∙ miss _ _ _ (λ q. omega (arith, p, q)) ∙ hit _ _ _ p)
       l
 
-  pub begins_empty : {deep nodes : ℕ} {code : List ℕ} → k ≡ Tokens.token·empty → {r : Act} {u : List ℕ} → Leaf s t.next t.next code nodes (empty_at s) r u → Begins s at deep code nodes r u
+  pub begins_empty : {deep nodes : ℕ} {code : List ℕ} → k ≡ Tokens.token·empty → {r : Std.Result Act Refusal} {u : List ℕ} → Leaf s t.next t.next code nodes (empty_at s) r u → Begins s at deep code nodes r u
   unfolding cond_at cond_by empty_at
   begins_empty p l =
       leaf_begins (empty_at s) (next_inside (λ z. omega (arith, p, z))).0
@@ -80,7 +85,7 @@ module _ (s : List ℕ) (at : ℕ) {t : Placed} (tk : Tells (token_at s at) t) (
 
   -- NO CONDITION
   pub begins_none : {deep nodes : ℕ} {code : List ℕ} → k ≢ Tokens.token·true → k ≢ Tokens.token·false → k ≢ Tokens.token·dollar → k ≢ Tokens.token·empty → k ≢ Tokens.token·not → k ≢ Tokens.token·opens
-      → Begins s at deep code nodes (Act.Refused 22 t.place) code
+      → Begins s at deep code nodes (Std.Err (refusal Reason.NoSuchText t.place)) code
   unfolding cond_at cond_by
   begins_none a b c d f g =
       record {
@@ -107,44 +112,44 @@ module _ (s : List ℕ) (at : ℕ) {t : Placed} (tk : Tells (token_at s at) t) (
   unfolding opened
   opened_full deep n h = rw (le-ltb deep 100 h, tk.place) refl
 
-  module _ (word : ℕ) (f : ℕ → Frame) (waits : (j n : ℕ) → length s ≤ j + t.next → Waits s t.next n word (f j)) (bare : (base : List Node) (j : ℕ) → under base (f j) ≡ base) (deep : ℕ)
+  module _ (w : Waiting) (f : ℕ → Frame) (waits : (j n : ℕ) → length s ≤ j + t.next → Waits s t.next n w (f j)) (bare : (base : List Node) (j : ℕ) → under base (f j) ≡ base) (deep : ℕ)
       (is : (j n : ℕ) → cond_at s (suc (suc j)) deep (here at n) ≡ (opened s deep (here at n) >>= λ i. cond_at s (suc j) (suc deep) i >>= cont s (suc deep) (f j))) where
     abbrev inner : ℕ → Out Here → Read Cond
     inner j o = o >>= λ i. cond_at s (suc j) (suc deep) i >>= cont s (suc deep) (f j)
 
-    opened_acted : (j n : ℕ) (base : List Node) {nodes : ℕ} {code : List ℕ} → Onward s at t.next → length s ≤ suc j + at → min n 1025 ≡ nodes → (n ≤ 1024 → code_of code n ≡ base) → {r : Act} → Opens deep t.place t.next word nodes r
+    opened_acted : (j n : ℕ) (base : List Node) {nodes : ℕ} {code : List ℕ} → Onward s at t.next → length s ≤ suc j + at → min n 1025 ≡ nodes → (n ≤ 1024 → code_of code n ≡ base) → {r : Std.Result Act Refusal} → Opens deep t.place t.next w nodes r
         → Acted s (suc deep) n base code (cond_at s (suc (suc j)) deep (here at n)) r
     opened_acted j n base on l q g (full h) = refuses (is j n ∙ ap (inner j) (opened_full deep n h))
     opened_acted j n base on l q g (room h) =
         let m : length s ≤ j + t.next = omega (arith, l, on.0) in
         more (f j) j (is j n ∙ ap (inner j) (opened_room deep n h)) q m (waits j n m) (λ i. g i ∙ sym (bare base j))
 
-    opened_begun : (j n : ℕ) (base : List Node) {nodes : ℕ} {code : List ℕ} → Onward s at t.next → length s ≤ j + at → min n 1025 ≡ nodes → (n ≤ 1024 → code_of code n ≡ base) → {r : Act} → Opens deep t.place t.next word nodes r
+    opened_begun : (j n : ℕ) (base : List Node) {nodes : ℕ} {code : List ℕ} → Onward s at t.next → length s ≤ j + at → min n 1025 ≡ nodes → (n ≤ 1024 → code_of code n ≡ base) → {r : Std.Result Act Refusal} → Opens deep t.place t.next w nodes r
         → Acted s (suc deep) n base code (cond_at s (suc j) deep (here at n)) r
     opened_begun zero n base on l q g o = absurd (omega (arith, on.0, on.1, l))
     opened_begun (suc j) n base on l q g o = opened_acted j n base on l q g o
 
-    opened_moves : {nodes : ℕ} → Onward s at t.next → nodes ≤ 1025 → {r : Act} → Opens deep t.place t.next word nodes r → Moves s (suc at) r
+    opened_moves : {nodes : ℕ} → Onward s at t.next → nodes ≤ 1025 → {r : Std.Result Act Refusal} → Opens deep t.place t.next w nodes r → Moves s (suc at) r
     opened_moves on h (full l) = tt
     opened_moves on h (room l) = (on.0, on.1, h)
 
-    opened_room_for : {nodes : ℕ} {r : Act} → Opens deep t.place t.next word nodes r → deep ≤ 100 → Room deep r
+    opened_room_for : {nodes : ℕ} {r : Std.Result Act Refusal} → Opens deep t.place t.next w nodes r → deep ≤ 100 → Room deep r
     opened_room_for (full l) h = tt
     opened_room_for (room l) h = l
 
-    opened_begins : {nodes : ℕ} {code : List ℕ} → Onward s at t.next → nodes ≤ 1025 → {r : Act} → Opens deep t.place t.next word nodes r → Begins s at deep code nodes r code
+    opened_begins : {nodes : ℕ} {code : List ℕ} → Onward s at t.next → nodes ≤ 1025 → {r : Std.Result Act Refusal} → Opens deep t.place t.next w nodes r → Begins s at deep code nodes r code
     opened_begins on h o = record { moves = opened_moves on h o; room = opened_room_for o; is = λ j n base l q g. opened_begun j n base on l q g o }
 
-  pub begins_not : {deep nodes : ℕ} {code : List ℕ} → k ≡ Tokens.token·not → nodes ≤ 1025 → {r : Act} → Opens deep t.place t.next 0 nodes r → Begins s at deep code nodes r code
+  pub begins_not : {deep nodes : ℕ} {code : List ℕ} → k ≡ Tokens.token·not → nodes ≤ 1025 → {r : Std.Result Act Refusal} → Opens deep t.place t.next Waiting.Not nodes r → Begins s at deep code nodes r code
   unfolding cond_at cond_by cont under Waits
   begins_not {deep} p h o =
-      opened_begins 0 (λ j. denies) (λ j n l. refl) (λ base j. refl) deep
+      opened_begins Waiting.Not (λ j. denies) (λ j n l. refl) (λ base j. refl) deep
       (λ j n. miss _ _ _ (λ q. omega (arith, p, q)) ∙ miss _ _ _ (λ q. omega (arith, p, q)) ∙ miss _ _ _ (λ q. omega (arith, p, q)) ∙ miss _ _ _ (λ q. omega (arith, p, q)) ∙ hit _ _ _ p)
       (next_inside (λ z. omega (arith, p, z))) h o
 
-  pub begins_or : {deep nodes : ℕ} {code : List ℕ} → k ≡ Tokens.token·opens → nodes ≤ 1025 → {r : Act} → Opens deep t.place t.next 1 nodes r → Begins s at deep code nodes r code
+  pub begins_or : {deep nodes : ℕ} {code : List ℕ} → k ≡ Tokens.token·opens → nodes ≤ 1025 → {r : Std.Result Act Refusal} → Opens deep t.place t.next Waiting.First nodes r → Begins s at deep code nodes r code
   unfolding cond_at cond_by cont close_at under Waits
   begins_or {deep} p h o =
-      opened_begins 1 (λ j. before j) (λ j n l. (refl, l)) (λ base j. refl) deep
+      opened_begins Waiting.First (λ j. before j) (λ j n l. (refl, l)) (λ base j. refl) deep
       (λ j n. miss _ _ _ (λ q. omega (arith, p, q)) ∙ miss _ _ _ (λ q. omega (arith, p, q)) ∙ miss _ _ _ (λ q. omega (arith, p, q)) ∙ miss _ _ _ (λ q. omega (arith, p, q)) ∙ miss _ _ _ (λ q. omega (arith, p, q)) ∙ hit _ _ _ p)
       (next_inside (λ z. omega (arith, p, z))) h o

@@ -1,17 +1,13 @@
 -- Conditions by the kind of their node.
 -- Assumes nothing.
-use mathlib.Core.Path.{◌≡◌, refl, subst}
-use mathlib.Core.List.{List}
-use Prim.Native.Nat.{ℕ, ◌+◌, ◌*◌}
+use mathlib.Core.Path.{◌≡◌, refl}
+use Prim.Native.Nat.{ℕ}
 use native.Mathlib.Decide.{ℕ_discrete}
 use borrow.Author.Tests.{ne_eqb}
-use lib.ListN.{get_or}
-use Rattle.meaning.specs.Base.{code_width, find}
+use Rattle.meaning.specs.Base.{find}
 use Rattle.meaning.specs.Kinds
 use Rattle.meaning.specs.Records.{node}
 use Rattle.meaning.specs.Queries.{expand_cond}
-use Rattle.words.specs.Tables.{node_in}
-use Rattle.words.specs.declared.Node as Words
 use Rattle.conds.specs.Says.{Says}
 use Rattle.conds.specs.declared.Cond.{Cond}
 
@@ -36,7 +32,3 @@ module _ (n a b d k : ℕ) where
       go : Dec (k ≡ Kinds.condition·false) → Says n (node k a b d) Cond.False
       go (yes u) = says_false u
       go (no u) = says_other p q r s t u
-
--- the words that were read at a node's place say what the node there says
-pub says_read : (code : List ℕ) (n : ℕ) (w : Words.Node) {c : Cond} → w ≡ record { kind = get_or code (code_width * n) 0; a = get_or code (code_width * n + 1) 0; b = get_or code (code_width * n + 2) 0; c = get_or code (code_width * n + 3) 0 } → ((m d : ℕ) → Says m (node w.kind w.a w.b d) c) → Says n (node_in code n) c
-says_read code n w {c} e h = subst (λ (x : Words.Node). Says n (node x.kind x.a x.b x.c) c) e (h n w.c)

@@ -1,2 +1,2 @@
--- What the answers of this crate say in document 01's terms.
+-- What the answers of this crate say in the terms of `meaning`.
 pub mod Says

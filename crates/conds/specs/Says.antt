@@ -1,26 +1,26 @@
--- What the answers of this crate say in document 01's terms: refusals, an entry, a condition by its node; and when an answer is a rule's.
+-- What the answers of this crate say in the terms of `meaning`: a condition by its node, and when an answer is a rule's.
 -- Assumes nothing.
-use Rattle.std.specs.Prelude.{◌≡◌, List, ℕ}
-use Rattle.meaning.specs.Base.{Out, ok, refused}
+use Rattle.std.specs.Prelude.{◌≡◌, ℕ, Result}
+use Rattle.meaning.specs.Base.{Out}
+use Rattle.meaning.specs.Records as Records
 use Rattle.meaning.specs.Records.{Node}
 use Rattle.meaning.specs.Queries as Queries
 use Rattle.meaning.specs.Queries.{expand_cond}
 use Rattle.meaning.specs.Typing as Typing
-use Rattle.scope.specs.Shows.{Shows}
+use Rattle.refusals.specs.declared.Refusal.{Refusal}
+use Rattle.refusals.specs.Says.{out}
+use Rattle.scope.specs.Shows.{var_of, Shows}
 use Rattle.scope.specs.declared.Scope.{Scope}
-use Rattle.conds.specs.declared.Verdict.{Verdict}
-use Rattle.conds.specs.declared.Found.{Found}
+use Rattle.scope.specs.declared.Var.{Var}
 use Rattle.conds.specs.declared.Cond.{Cond}
 
--- nothing to refuse, or a refusal
-abbrev pub verdict : Verdict → Out (Unit {0})
-verdict Verdict.Fine = ok tt
-verdict (Verdict.Refused n place) = refused n place
+-- an entry, or nothing, or a refusal
+abbrev pub told : {A : Type 0} → Result A Refusal → Out A
+told r = out (λ a. a) r
 
--- an entry, or a refusal
-abbrev pub found : Found → Out ℕ
-found (Found.Entry e) = ok e
-found (Found.Refused n place) = refused n place
+-- a variable, or a refusal
+abbrev pub variable_told : Result Var Refusal → Out Records.Var
+variable_told r = out var_of r
 
 -- the condition at node n, from those at the nodes that it names
 abbrev pub cond_of : ℕ → (ℕ → Queries.Cond) → Cond → Queries.Cond
@@ -35,11 +35,6 @@ cond_of n f (Cond.Not p) = Queries.not n (f p)
 pub record Says (n : ℕ) (x : Node) (c : Cond) : Type 0 where
   pub is : (f : ℕ → Queries.Cond) → cond_of n f c ≡ expand_cond n f x
 
--- an answer is the rule's in every scope that these words show
-pub record Judges {A : Type 0} (slots : List ℕ) (told : Out A) (rule : Typing.Scope → Out A) : Type 0 where
-  pub is : (g : Typing.Scope) → Shows (record { slots = slots }) g → told ≡ rule g
-
--- the same for a scope, which is handed back as it was
-pub record Answers {A : Type 0} (before after : Scope) (told : Out A) (rule : Typing.Scope → Out A) : Type 0 where
-  pub kept : after ≡ before
-  pub is : (g : Typing.Scope) → Shows before g → told ≡ rule g
+-- an answer is the rule's in every scope that this one shows
+pub record Answers {A : Type 0} (s : Scope) (told : Out A) (rule : Typing.Scope → Out A) : Type 0 where
+  pub is : (g : Typing.Scope) → Shows s g → told ≡ rule g

@@ -9,8 +9,9 @@ use lib.ListN.{length, get_or}
 use Rattle.meaning.specs.Forests.{Forest, end, leaf, tree, join, size, forest_words, select, below}
 use Rattle.meaning.proofs.Forests.{join_end, join_assoc, size_join, below_join, select_join, words_determine}
 use Rattle.spans.specs.Shows.{part}
-use Rattle.copies.specs.Fills.{first, stride_of, spread, Filled, Copied, done, Stretch}
-use Rattle.copies.specs.declared.Made.{Made}
+use Rattle.copies.specs.Fills.{Made, first, stride_of, spread, Filled, Copied, done, Stretch}
+use Rattle.std.specs.Prelude as Std
+use Rattle.refusals.specs.declared.Refusal.{Refusal}
 use Rattle.copies.proofs.Filling.{filled_one, filled_length, filled_self, copied_done, copied_full, full_is, copied_as}
 use Rattle.copies.proofs.Firsts.{others, within, some, stretch_none, tree_size, tree_inside, tree_words, others_words, under_words}
 
@@ -33,8 +34,8 @@ spread_step false (leaf t r) h = refl
 spread_step false (tree l i r) h = refl
 
 -- a copy that had no room for the first has none for all
-pub full_more : (vs : List ℕ) {room : ℕ} {us : List ℕ} {n m : ℕ} {r : Made} {h : Forest} (f g : Forest) → r ≡ Made.Full m → h ≡ join f g → Copied room us n r f → Copied room vs n r h
-full_more vs f g e p c = let d = copied_full e c in full_is e d.0 (omega (arith, d.1, ap size p, size_join f g))
+pub full_more : (vs : List ℕ) {room : ℕ} {us : List ℕ} {n : ℕ} {x : Refusal} {h : Forest} (f g : Forest) → h ≡ join f g → Copied room us n (Std.Err x) f → Copied room vs n (Std.Err x) h
+full_more vs f g p c = let d = copied_full refl c in full_is d.0 (omega (arith, d.1, ap size p, size_join f g))
 
 -- what one tree more at the front leaves
 abbrev Appends : List ℕ → List ℕ → List ℕ → ℕ → ℕ → ℕ → Made → Type 0
@@ -67,7 +68,7 @@ module _ {held : List ℕ} {from to test : ℕ} {deep : Bool} {start : List ℕ}
         let b : g ≡ c.before = filled_one c.began q in
         copied_as (ap (λ (x : Forest). join x (select test (spread deep f))) b ∙ ap (λ (x : Forest). join c.before (select test (spread deep x))) a) h
 
-    pub choosing_end : to ≤ j → (n : ℕ) (f g : Forest) → part held from to ≡ forest_words f → Filled (length start) start m g → Copied (length start) rest n (Made.Done top) (join g (select test (spread deep f)))
+    pub choosing_end : to ≤ j → (n : ℕ) (f g : Forest) → part held from to ≡ forest_words f → Filled (length start) start m g → Copied (length start) rest n (Std.Ok top) (join g (select test (spread deep f)))
     unfolding select
     choosing_end h n =
         let e : join c.before (select test (spread deep c.source)) ≡ c.so_far = c.goes ∙ ap (λ (x : Forest). join c.so_far (select test (spread deep x))) (stretch_none held j to c.coming c.inside c.is h) ∙ ap (λ (x : Forest). join c.so_far (select test x)) (spread_none deep) ∙ join_end c.so_far in
@@ -98,8 +99,8 @@ module _ {held : List ℕ} {from to test : ℕ} {deep : Bool} {start : List ℕ}
       turn_copied {us} {n} {r} a =
           subst (λ (l : ℕ). Copied l us n r (join c.so_far (select test (first c.coming)))) (filled_length c.filled) (a c.coming c.so_far turn_words (filled_self c.filled))
 
-      pub turn_full : (vs : List ℕ) {us : List ℕ} {n k : ℕ} {r : Made} → r ≡ Made.Full k → Appends (part held j (j + size-there)) rest us test top n r → (f g : Forest) → part held from to ≡ forest_words f → Filled (length start) start m g → Copied (length start) vs n r (join g (select test (spread deep f)))
-      turn_full vs e a = choosing_same (full_more vs _ _ e goes_on (turn_copied a))
+      pub turn_full : (vs : List ℕ) {us : List ℕ} {n : ℕ} {x : Refusal} → Appends (part held j (j + size-there)) rest us test top n (Std.Err x) → (f g : Forest) → part held from to ≡ forest_words f → Filled (length start) start m g → Copied (length start) vs n (Std.Err x) (join g (select test (spread deep f)))
+      turn_full vs a = choosing_same (full_more vs _ _ goes_on (turn_copied a))
 
       next_words : (d : Bool) → part held (j + stride_of d size-there) to ≡ forest_words (next d c.coming)
       unfolding next stride_of
@@ -116,6 +117,6 @@ module _ {held : List ℕ} {from to test : ℕ} {deep : Bool} {start : List ℕ}
       stride_inside true = omega arith
       stride_inside false = turn_inside
 
-      pub turn_next : {us : List ℕ} {n k s : ℕ} {r : Made} → r ≡ Made.Done k → Appends (part held j (j + size-there)) rest us test top n r → s ≡ stride_of deep size-there → Choosing held from to test deep start m us (j + s) k
-      turn_next {us} {k = k} {s} e a p =
-          subst (λ (x : ℕ). Choosing held from to test deep start m us (j + x) k) (sym p) (record { source = c.source; was = c.was; before = c.before; began = c.began; ordered = stride_inside deep; inside = c.inside; coming = next deep c.coming; is = next_words deep; so_far = join c.so_far (select test (first c.coming)); filled = copied_done e (turn_copied a); goes = goes_on })
+      pub turn_next : {us : List ℕ} {n k s : ℕ} → Appends (part held j (j + size-there)) rest us test top n (Std.Ok k) → s ≡ stride_of deep size-there → Choosing held from to test deep start m us (j + s) k
+      turn_next {us} {k = k} {s} a p =
+          subst (λ (x : ℕ). Choosing held from to test deep start m us (j + x) k) (sym p) (record { source = c.source; was = c.was; before = c.before; began = c.began; ordered = stride_inside deep; inside = c.inside; coming = next deep c.coming; is = next_words deep; so_far = join c.so_far (select test (first c.coming)); filled = copied_done refl (turn_copied a); goes = goes_on })

@@ -11,8 +11,9 @@ use Rattle.meaning.specs.Forests.{Forest, end, join, size, forest_words}
 use Rattle.meaning.proofs.Forests.{size_join, words_join, length_words, words_determine}
 use Rattle.words.specs.Tables.{stored}
 use Rattle.words.proofs.Rows.{zeros_length}
-use Rattle.copies.specs.Fills.{Filled, Copied, done, full}
-use Rattle.copies.specs.declared.Made.{Made}
+use Rattle.copies.specs.Fills.{Made, no_room, Filled, Copied, done, full}
+use Rattle.std.specs.Prelude as Std
+use Rattle.refusals.specs.declared.Refusal.{Refusal}
 use Rattle.copies.proofs.Lent.{drop_zeros, lent, back}
 
 -- what follows from two answers that differ
@@ -38,16 +39,16 @@ filled_stored {us} {ws} {rest} {k} f e b fits q s =
     }
 
 -- WHAT A COPY SAYS
-pub copied_done : {room : ℕ} {us : List ℕ} {n k : ℕ} {r : Made} {f : Forest} → r ≡ Made.Done k → Copied room us n r f → Filled room us k f
+pub copied_done : {room : ℕ} {us : List ℕ} {n k : ℕ} {r : Made} {f : Forest} → r ≡ Std.Ok k → Copied room us n r f → Filled room us k f
 copied_done {room} {us} {k = k} {f = f} e (done {k = j} h) = let p : j ≡ k = cc in subst (λ (x : ℕ). Filled room us x f) p h
 copied_done e (full h) = differ (cc)
 
-pub copied_full : {room : ℕ} {us : List ℕ} {n m : ℕ} {r : Made} {f : Forest} → r ≡ Made.Full m → Copied room us n r f → (m ≡ n) × (room < 3 * size f)
+pub copied_full : {room : ℕ} {us : List ℕ} {n : ℕ} {x : Refusal} {r : Made} {f : Forest} → r ≡ Std.Err x → Copied room us n r f → (x ≡ no_room n) × (room < 3 * size f)
 copied_full e (done h) = differ (cc)
 copied_full e (full h) = (cc, h)
 
-pub full_is : {room : ℕ} {us : List ℕ} {n m : ℕ} {r : Made} {f : Forest} → r ≡ Made.Full m → m ≡ n → room < 3 * size f → Copied room us n r f
-full_is e p h = rw (e, p) (full h)
+pub full_is : {room : ℕ} {us : List ℕ} {n : ℕ} {x : Refusal} {f : Forest} → x ≡ no_room n → room < 3 * size f → Copied room us n (Std.Err x) f
+full_is p h = rw p (full h)
 
 pub copied_as : {room : ℕ} {us : List ℕ} {n : ℕ} {r : Made} {f g : Forest} → g ≡ f → Copied room us n r f → Copied room us n r g
 copied_as {room} {us} {n} {r} p c = subst (λ (x : Forest). Copied room us n r x) (sym p) c
@@ -98,8 +99,8 @@ module _ {room k : ℕ} {us : List ℕ} {f : Forest} (h : Filled room us k f) wh
       }
 
   -- one forest more is copied there, or has no room
-  pub behind_done : {n m : ℕ} {g : Forest} {vs : List ℕ} {r : Made} → r ≡ Made.Done m → Copied (length (take (length us - 3 * k) (drop (3 * k) us))) vs n r g → Filled room (take (3 * k) us ++ (vs ++ drop (length us - 3 * k) (drop (3 * k) us))) (k + m) (join f g)
-  behind_done {m = m} {g} {vs} e c = behind_filled (subst (λ (j : ℕ). Filled j vs m g) behind_length (copied_done e c))
+  pub behind_done : {n m : ℕ} {g : Forest} {vs : List ℕ} → Copied (length (take (length us - 3 * k) (drop (3 * k) us))) vs n (Std.Ok m) g → Filled room (take (3 * k) us ++ (vs ++ drop (length us - 3 * k) (drop (3 * k) us))) (k + m) (join f g)
+  behind_done {m = m} {g} {vs} c = behind_filled (subst (λ (j : ℕ). Filled j vs m g) behind_length (copied_done refl c))
 
-  pub behind_full : (ws : List ℕ) {n m : ℕ} {g : Forest} {vs : List ℕ} {r : Made} → r ≡ Made.Full m → Copied (length (take (length us - 3 * k) (drop (3 * k) us))) vs n r g → Copied room ws n r (join f g)
-  behind_full ws {n} {m} {g} e c = let d = copied_full e c in full_is e d.0 (omega (arith, d.1, behind_length, size_join f g, h.count))
+  pub behind_full : (ws : List ℕ) {n : ℕ} {g : Forest} {vs : List ℕ} {x : Refusal} → Copied (length (take (length us - 3 * k) (drop (3 * k) us))) vs n (Std.Err x) g → Copied room ws n (Std.Err x) (join f g)
+  behind_full ws {n} {g} c = let d = copied_full refl c in full_is d.0 (omega (arith, d.1, behind_length, size_join f g, h.count))

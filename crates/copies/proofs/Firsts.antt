@@ -3,15 +3,16 @@
 use mathlib.Core.Path.{◌≡◌, refl, sym, ap, ◌∙◌}
 use mathlib.Core.Bool.{Bool, true, false, not}
 use mathlib.Core.List.{List, [], ◌∷◌, ◌++◌, append-nil}
-use Prim.Native.Nat.{ℕ, ◌+◌, ◌*◌, ◌-◌, ◌≤◌, ◌<◌}
+use Prim.Native.Nat.{ℕ, ◌+◌, ◌*◌, ◌-◌, ◌/◌, ◌≤◌, ◌<◌}
 use native.Mathlib.Omega.{arith}
-use lib.ListN.{length, get_or}
+use lib.ListN.{length, get_or, take}
+use lib.Seq.{take_all}
 use Rattle.meaning.specs.Forests.{Forest, end, leaf, tree, Head, text, label, passes, keep, select, join, size, forest_words}
 use Rattle.meaning.proofs.Lists.{never}
 use Rattle.meaning.proofs.Forests.{join_end, size_join, words_join, length_words}
 use Rattle.spans.specs.Shows.{part}
 use Rattle.spans.proofs.Parts.{part_length, part_at, part_front, part_behind}
-use Rattle.copies.specs.Fills.{head_in, first}
+use Rattle.copies.specs.Fills.{head_in, first, Stretch, Trees}
 
 -- the trees behind the first, those inside it, and its entry
 unfoldable pub others : Forest → Forest
@@ -99,6 +100,16 @@ module _ (w : ℕ) (f : Forest) {ws : List ℕ} (is : ws ≡ forest_words (first
 
   pub select_so : not b ≡ false → select w (first f) ≡ first f
   select_so e = selected ∙ keep_so b (first f) e
+
+-- THE WHOLE of a forest's words is a stretch
+pub whole_part : (ws : List ℕ) (f : Forest) → ws ≡ forest_words f → part ws 0 (length ws / 3) ≡ forest_words f
+unfolding part
+whole_part ws f e =
+    let n : 3 * (length ws / 3) - 3 * 0 ≡ length ws = omega (arith, ap length e, length_words f) in
+    ap (λ (k : ℕ). take k ws) n ∙ take_all (length ws) ws (omega arith) ∙ e
+
+pub whole_stretch : {ws : List ℕ} → Trees ws → Stretch ws 0 (length ws / 3)
+whole_stretch {ws} t = record { ordered = omega arith; inside = omega arith; forest = t.forest; is = whole_part ws t.forest t.is }
 
 -- ITS STRETCHES in a table
 module _ (held : List ℕ) (j e : ℕ) (f : Forest) (inside : 3 * e ≤ length held) (is : part held j e ≡ forest_words f) where

@@ -10,8 +10,9 @@ use Rattle.meaning.specs.Base.{zeros}
 use Rattle.meaning.specs.Forests.{Forest, end, leaf, tree, join, size, forest_words, select, children}
 use Rattle.meaning.proofs.Forests.{join_end, join_assoc, select_join, words_determine}
 use Rattle.spans.specs.Shows.{part}
-use Rattle.copies.specs.Fills.{first, spread, Filled, Copied, done, Stretch}
-use Rattle.copies.specs.declared.Made.{Made}
+use Rattle.copies.specs.Fills.{Made, first, spread, Filled, Copied, done, Stretch}
+use Rattle.std.specs.Prelude as Std
+use Rattle.refusals.specs.declared.Refusal.{Refusal}
 use Rattle.copies.proofs.Filling.{filled_none, filled_length, filled_self, copied_done, copied_as}
 use Rattle.copies.proofs.Firsts.{others, within, some, stretch_none, tree_size, tree_inside, others_words, within_words}
 use Rattle.copies.proofs.Choosing.{full_more}
@@ -46,7 +47,7 @@ module _ {held : List ℕ} {from to test room : ℕ} where
     gathering_same : {us : List ℕ} {n : ℕ} {r : Made} → Copied room us n r (select test (children c.source)) → (f : Forest) → part held from to ≡ forest_words f → Copied room us n r (select test (children f))
     gathering_same h f p = copied_as (ap (λ (x : Forest). select test (children x)) (words_determine f c.source (sym p ∙ c.was))) h
 
-    pub gathering_end : to ≤ j → (n : ℕ) (f : Forest) → part held from to ≡ forest_words f → Copied room rest n (Made.Done top) (select test (children f))
+    pub gathering_end : to ≤ j → (n : ℕ) (f : Forest) → part held from to ≡ forest_words f → Copied room rest n (Std.Ok top) (select test (children f))
     unfolding select children
     gathering_end h n =
         let e : select test (children c.source) ≡ c.so_far = c.goes ∙ ap (λ (x : Forest). join c.so_far (select test (children x))) (stretch_none held j to c.coming c.inside c.is h) ∙ join_end c.so_far in
@@ -78,9 +79,9 @@ module _ {held : List ℕ} {from to test room : ℕ} where
       inner_copied {us} {n} {r} a =
           subst (λ (l : ℕ). Copied l us n r (join c.so_far (select test (spread false (within c.coming))))) (filled_length c.filled) (a (within c.coming) c.so_far inner_words (filled_self c.filled))
 
-      pub inner_full : (vs : List ℕ) {us : List ℕ} {n k : ℕ} {r : Made} → r ≡ Made.Full k → Inner held (j + 1) next rest us test top n r → (f : Forest) → part held from to ≡ forest_words f → Copied room vs n r (select test (children f))
-      inner_full vs e a = gathering_same (full_more vs _ _ e goes_on (inner_copied a))
+      pub inner_full : (vs : List ℕ) {us : List ℕ} {n : ℕ} {x : Refusal} → Inner held (j + 1) next rest us test top n (Std.Err x) → (f : Forest) → part held from to ≡ forest_words f → Copied room vs n (Std.Err x) (select test (children f))
+      inner_full vs a = gathering_same (full_more vs _ _ goes_on (inner_copied a))
 
-      pub inner_next : {us : List ℕ} {n k : ℕ} {r : Made} → r ≡ Made.Done k → Inner held (j + 1) next rest us test top n r → Gathering held from to test room us next k
-      inner_next e a =
-          record { source = c.source; was = c.was; ordered = inner_ends.1; inside = c.inside; coming = others c.coming; is = ap (λ (i : ℕ). part held i to) next_is ∙ others_words held j to c.coming c.inside c.is more; so_far = join c.so_far (select test (spread false (within c.coming))); filled = copied_done e (inner_copied a); goes = goes_on }
+      pub inner_next : {us : List ℕ} {n k : ℕ} → Inner held (j + 1) next rest us test top n (Std.Ok k) → Gathering held from to test room us next k
+      inner_next a =
+          record { source = c.source; was = c.was; ordered = inner_ends.1; inside = c.inside; coming = others c.coming; is = ap (λ (i : ℕ). part held i to) next_is ∙ others_words held j to c.coming c.inside c.is more; so_far = join c.so_far (select test (spread false (within c.coming))); filled = copied_done refl (inner_copied a); goes = goes_on }

@@ -1,3 +1,3 @@
--- Laws of the unions that dos makes, and of what the rule is given. Read in this order.
+-- Laws of the unions that dos makes, and of the rule. Read in this order.
 pub mod Uniting
 pub mod Rule

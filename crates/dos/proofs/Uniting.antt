@@ -2,29 +2,31 @@
 -- Assumes nothing.
 use mathlib.Core.Path.{◌≡◌, refl, sym, ◌∙◌}
 use mathlib.Core.Bool.{Bool}
-use mathlib.Core.List.{List}
-use Prim.Native.Nat.{ℕ, ◌+◌, ◌*◌, ◌-◌, ◌≤◌, ◌<◌}
+use mathlib.Core.List.{List, [], ◌∷◌}
+use Prim.Native.Nat.{ℕ, ◌+◌, ◌-◌, ◌≤◌, ◌<◌}
 use native.Mathlib.Omega.{arith}
 use lib.ListN.{length}
-use Rattle.meaning.specs.Base.{Out, ok, kept_from, type_width, type_capacity}
+use Rattle.std.specs.Prelude as Std
+use Rattle.std.specs.Prelude.{Result}
+use Rattle.refusals.specs.declared.Refusal.{Refusal}
+use Rattle.meaning.specs.Base.{Out, ok, kept_from, type_capacity}
 use Rattle.meaning.specs.Types as Types
-use Rattle.meaning.specs.Types.{Entry, Table, Defs}
+use Rattle.meaning.specs.Types.{Entry, Table, Defs, entry_words}
 use Rattle.meaning.specs.Rules.{after, append, unions}
+use Rattle.words.specs.declared.Entry as Words
 use Rattle.words.specs.Tables.{table_of}
+use Rattle.words.proofs.Tables.{table_length}
+use Rattle.reach.specs.Marks.{marks_of}
 use Rattle.reach.specs.Atoms.{picked, Next}
-use Rattle.reach.proofs.Atoms.{next_to, unions_one, unions_none}
+use Rattle.reach.proofs.Atoms.{next_low, unions_one, unions_none}
 use Rattle.grow.specs.Grow.{Ready, Left, New}
 use Rattle.grow.specs.declared.Made.{Made}
-use Rattle.grow.proofs.Entries.{new_union}
+use Rattle.grow.proofs.Entries.{new_union, new_by}
 use Rattle.grow.proofs.Steps.{left_here, left_stop, left_on, after_ok, kept_table, appended, appended_grows}
 
--- one that is found stands in the table
-pub next_low : {f : ℕ → Bool} {count i y : ℕ} → Next f count i y → (y ≡ count → ⊥) → y < count
-next_low next h = omega (arith, next_to next)
-
 -- what `grow::append` promises
-abbrev pub Adds : List ℕ → List ℕ → List ℕ → List ℕ → ℕ → ℕ → ℕ → ℕ → ℕ → Made → Type 0
-Adds us vs ds es n node k a b r = (D : Defs) (x : Entry) → New n k a b x → Ready D us ds n → Left D us vs ds es r (append (type_capacity (length us)) node x (table_of us n))
+abbrev pub Adds : List ℕ → List ℕ → List ℕ → List ℕ → ℕ → ℕ → Words.Entry → Result Made Refusal → Type 0
+Adds us vs ds es n node w r = (D : Defs) (x : Entry) → New n w.kind w.a w.b x → Ready D us ds n → Left D us vs ds es r (append (type_capacity (length us)) node x (table_of us n))
 
 -- the unions, from entry x over those kept after it
 abbrev pub United : List ℕ → ℕ → (ℕ → Bool) → ℕ → ℕ → Out (Table × ℕ)
@@ -32,13 +34,10 @@ United ws count f node x = unions (type_capacity (length ws)) node x (kept_from 
 
 -- THE LOOP: u is the union so far, in a table of n entries, and those kept from i on are left
 pub record Uniting (D : Defs) (ws cs : List ℕ) (count : ℕ) (f : ℕ → Bool) (node x : ℕ) (us ds : List ℕ) (u n i : ℕ) : Type 0 where
-  pub here : Left D ws us cs ds (Made.Entry u n) (ok (table_of us n, u))
+  pub here : Left D ws us cs ds (Std.Ok (record { at = u; count = n })) (ok (table_of us n, u))
   pub more : count ≤ n
   pub first : table_of us count ≡ table_of ws count
   pub rest : unions (type_capacity (length ws)) node u (kept_from f i (count - i)) (table_of us n) ≡ United ws count f node x
-
-pub uniting_none : {D : Defs} {ws cs : List ℕ} {count : ℕ} (f : ℕ → Bool) (node x : ℕ) → Ready D ws cs count → x < count → Uniting D ws cs count f node x ws cs x count (x + 1)
-uniting_none f node x R l = record { here = left_here R l; more = omega arith; first = refl; rest = refl }
 
 module _ {D : Defs} {ws cs : List ℕ} {count : ℕ} {f : ℕ → Bool} {node x : ℕ} {us ds : List ℕ} {u n i : ℕ} (s : Uniting D ws cs count f node x us ds u n i) where
   -- what the calls are given
@@ -48,42 +47,39 @@ module _ {D : Defs} {ws cs : List ℕ} {count : ℕ} {f : ℕ → Bool} {node x 
   pub uniting_low : u < n
   uniting_low = s.here.ready.1
 
-  pub uniting_inside : type_width * count ≤ length us
-  uniting_inside = omega (arith, uniting_ready.lent.fits, s.more)
+  -- no more
+  pub uniting_all : Next f count i Std.None → Left D ws us cs ds (Std.Ok (record { at = u; count = n })) (United ws count f node x)
+  uniting_all next = left_on refl s.here (left_here uniting_ready uniting_low) (sym (unions_none _ node u _ next) ∙ s.rest)
 
-  module _ {y : ℕ} (next : Next f count i y) where
+  module _ {y : ℕ} (next : Next f count i (Std.Some y)) where
     -- both parts of the union are words
-    pub uniting_words : y < count → (u < 4096) × (y < 4096)
-    uniting_words h = (omega (arith, uniting_ready.lent.fits, uniting_low), omega (arith, uniting_ready.lent.fits, s.more))
-
-    -- no more
-    pub uniting_all : y ≡ count → Left D ws us cs ds (Made.Entry u n) (United ws count f node x)
-    uniting_all h = left_on refl s.here (left_here uniting_ready uniting_low) (sym (unions_none next _ node u _ (omega arith)) ∙ s.rest)
+    pub uniting_words : (u < 4096) × (y < 4096)
+    uniting_words = (omega (arith, uniting_ready.lent.fits, uniting_low), omega (arith, uniting_ready.lent.fits, s.more, next_low next))
 
     -- one more: its union, then those after it
-    module _ {vs es : List ℕ} {o : Made} (h : y < count) (adds : Adds us vs ds es n node 5 u y o) where
+    module _ {vs es : List ℕ} {w : Words.Entry} {o : Result Made Refusal} (is : w.kind ∷ w.a ∷ w.b ∷ [] ≡ entry_words (Types.union u y)) (adds : Adds us vs ds es n node w o) where
       g : Left D us vs ds es o (append (type_capacity (length us)) node (Types.union u y) (table_of us n))
-      g = adds D (Types.union u y) (new_union uniting_low (omega (arith, s.more))) uniting_ready
+      g = adds D (Types.union u y) (new_by is (new_union uniting_low (omega (arith, s.more, next_low next)))) uniting_ready
 
       one : after (append (type_capacity (length us)) node (Types.union u y) (table_of us n)) (λ v. unions (type_capacity (length ws)) node v (kept_from f (y + 1) (count - (y + 1))))
           ≡ United ws count f node x
-      one = rw s.here.long (sym (unions_one next _ node u _ h) ∙ s.rest)
+      one = rw s.here.long (sym (unions_one _ node u _ next) ∙ s.rest)
 
-      pub uniting_full : {k place : ℕ} → o ≡ Made.Refused k place → Left D ws vs cs es o (United ws count f node x)
+      pub uniting_full : {e : Refusal} → o ≡ Std.Err e → Left D ws vs cs es o (United ws count f node x)
       uniting_full p = left_on refl s.here (left_stop _ p g) one
 
-      pub uniting_more : {l m : ℕ} → o ≡ Made.Entry l m → Uniting D ws cs count f node x vs es l m (y + 1)
-      uniting_more {l} {m} p =
+      pub uniting_more : {m : Made} → o ≡ Std.Ok m → Uniting D ws cs count f node x vs es m.at m.count (y + 1)
+      uniting_more {m} p =
           let a = appended n node (Types.union u y) p g in
           let made = after_ok p g in
           record {
             here = left_on refl s.here (rw p at g) made;
             more = omega (arith, a.count, s.more);
-            first = kept_table us vs n m (appended_grows a) count s.more ∙ s.first;
+            first = kept_table us vs n m.count (appended_grows a) count s.more ∙ s.first;
             rest = rw made at one;
           }
 
 -- the next one that is picked in the table as it is now is the next one that was picked in the table at first
-pub uniting_next : {D : Defs} {ws cs : List ℕ} {count : ℕ} (test : ℕ) (m : List Bool) {f : ℕ → Bool} {node x : ℕ} {us ds : List ℕ} {u n i y : ℕ}
-    → Uniting D ws cs count f node x us ds u n i → Next (picked test (table_of us count) m) count i y → Next (picked test (table_of ws count) m) count i y
-uniting_next test m s q = rw s.first at q
+pub uniting_next : {D : Defs} {ws cs : List ℕ} {count : ℕ} (test : ℕ) (ms : List ℕ) {f : ℕ → Bool} {node x : ℕ} {us ds : List ℕ} {u n i : ℕ} {r : Std.Option ℕ} {T : Table}
+    → Uniting D ws cs count f node x us ds u n i → T ≡ table_of us count → Next (picked test T (marks_of (length T) ms)) (length T) i r → Next (picked test (table_of ws count) (marks_of count ms)) count i r
+uniting_next test ms s e q = rw (e, table_length, s.first) at q

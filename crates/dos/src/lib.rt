@@ -6,11 +6,14 @@ ghost use Rattle.meaning.specs.Base.{type_capacity, kept_from};
 ghost use Rattle.meaning.specs.Types.{Defs};
 ghost use Rattle.meaning.specs.Rules.{unions, star_of, dos_rule};
 ghost use Rattle.words.specs.Tables.{table_of};
-ghost use Rattle.reach.specs.Marks.{marks_of, Given};
+ghost use Rattle.reach.specs.Marks.{marks_of};
 ghost use Rattle.reach.specs.Atoms.{picked};
 ghost use Rattle.grow.specs.Grow.{Ready, Left};
 
+use entries::Ty;
 use grow::Made;
+use refusals::Refusal;
+use tables::Types;
 
 // The union of the chosen entries from x on, leaning left: x itself if there is no other. Chosen are marked atoms that pass the test.
 fn unite(
@@ -21,28 +24,20 @@ fn unite(
     test: u16,
     node: usize,
     x: usize,
-) -> Made
-    requires fact_1 { ((D : Defs) × Ready D types.old classes.old count) }
-    requires fact_2 { x < count }
-    requires fact_3 { count ≤ length marks.now }
+) -> Result<Made, Refusal>
+    requires ready { ((D : Defs) × Ready D types.old classes.old count) }
+    requires low { x < count }
+    requires marked { count ≤ length marks.now }
     ensures { (D : Defs) → Ready D types.old classes.old count → Left D types.old types.new classes.old classes.new result (unions (type_capacity (length types.old)) node x (kept_from (picked test (table_of types.old count) (marks_of count marks.now)) (x + 1) (count - (x + 1))) (table_of types.old count)) }
 {
-    let mut u = x;
-    let mut n = count;
+    let mut made = Made { at: x, count };
     let mut i = x + 1;
-    loop {
-        let y = reach::next(types, count, marks, test, i);
-        if y == count {
-            return Made::Entry { at: u, count: n };
-        }
-        let made = grow::append(types, classes, n, node, 5, u as u16, y as u16);
-        let Made::Entry { at, count: more } = made else {
-            return made;
-        };
-        u = at;
-        n = more;
+    while let Some(y) = reach::next(&Types::new(types, count), marks, test, i) {
+        let both = Ty::Union(made.at as u16, y as u16).words();
+        made = grow::append(types, classes, made.count, node, both)?;
         i = y + 1;
     }
+    Ok(made)
 }
 
 // The star of that union.
@@ -54,17 +49,15 @@ fn join(
     test: u16,
     node: usize,
     x: usize,
-) -> Made
-    requires fact_1 { ((D : Defs) × Ready D types.old classes.old count) }
-    requires fact_2 { x < count }
-    requires fact_3 { count ≤ length marks.now }
+) -> Result<Made, Refusal>
+    requires ready { ((D : Defs) × Ready D types.old classes.old count) }
+    requires low { x < count }
+    requires marked { count ≤ length marks.now }
     ensures { (D : Defs) → Ready D types.old classes.old count → Left D types.old types.new classes.old classes.new result (star_of (type_capacity (length types.old)) node (x ∷ kept_from (picked test (table_of types.old count) (marks_of count marks.now)) (x + 1) (count - (x + 1))) (table_of types.old count)) }
 {
-    let made = unite(types, classes, count, marks, test, node, x);
-    let Made::Entry { at, count: n } = made else {
-        return made;
-    };
-    grow::append(types, classes, n, node, 6, at as u16, 0)
+    let all = unite(types, classes, count, marks, test, node, x)?;
+    let star = Ty::Star(all.at as u16).words();
+    grow::append(types, classes, all.count, node, star)
 }
 
 // The type of dos for entry e: marks what e reaches, then joins the atoms among it that pass the test, by increasing entry number. Where there is none,
@@ -78,16 +71,17 @@ pub fn dos_rule(
     test: u16,
     e: usize,
     marks: &mut [u16],
-) -> Made
-    requires fact_1 { ((D : Defs) × Ready D types.old classes.old count × Given types.old count defs.now D) }
-    requires fact_2 { e < count }
-    requires fact_3 { 2 * count ≤ length marks.old }
-    ensures { (D : Defs) → Ready D types.old classes.old count → Given types.old count defs.now D → Left D types.old types.new classes.old classes.new result (dos_rule (type_capacity (length types.old)) node D test e (table_of types.old count)) }
+) -> Result<Made, Refusal>
+    requires ready { Ready defs.now types.old classes.old count }
+    requires low { e < count }
+    requires marked { 2 * count ≤ length marks.old }
+    ensures { Left defs.now types.old types.new classes.old classes.new result (dos_rule (type_capacity (length types.old)) node defs.now test e (table_of types.old count)) }
 {
-    reach::reach(types, count, defs, e, marks);
-    let x = reach::next(types, count, marks, test, 0);
-    if x == count {
-        return Made::Entry { at: 0, count };
-    }
+    let known = Types::new(types, count);
+    reach::reach(&known, defs, e, marks);
+    let first = reach::next(&known, marks, test, 0);
+    let Some(x) = first else {
+        return Ok(Made { at: 0, count });
+    };
     join(types, classes, count, marks, test, node, x)
 }

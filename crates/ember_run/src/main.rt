@@ -6,14 +6,13 @@
 // (`first_bytes_suffice` in proofs/Whole).
 #![tactic(auto)]
 
-ghost use Rattle.std.specs.Prelude.{◌≡◌, ◌++◌, ◌≤◌, length, OnOk};
+ghost use Rattle.std.specs.Prelude.{◌≡◌, ◌++◌, ◌≤◌, length, IfOk, IfSome, OnOk};
 ghost use Rattle.std.specs.Io.KnownBytes.{Appends};
 ghost use Rattle.intake.specs.Counts.{IsPrefixLen};
 ghost use Rattle.report.specs.Text.{stretch_lines, stretch_line};
 ghost use Rattle.ember_run.specs.Prints.{run_text};
 
-use intake::Got;
-use ran::Answer;
+use ran::Ran;
 use std::env::{Env, FillError};
 use std::fmt::Display;
 use std::fs::File;
@@ -27,44 +26,11 @@ const ENAMETOOLONG: i32 = 36;
 
 const EILSEQ: i32 = 84;
 
-// Room for the job.
-fn job_room() -> [u8; 43520]
-    ensures { 43520 ≡ length result }
-{
-    [0; 43520]
-}
-
 // Room for the values, and for one byte more: a file that fills it is too long.
 fn values_room() -> [u8; 2097153]
     ensures { 2097153 ≡ length result }
 {
     [0; 2097153]
-}
-
-// The three tables.
-fn type_table() -> [u16; 12288]
-    ensures { 12288 ≡ length result }
-{
-    [0; 12288]
-}
-
-fn query_table() -> [u16; 4096]
-    ensures { 4096 ≡ length result }
-{
-    [0; 4096]
-}
-
-fn work_table() -> [u16; 24576]
-    ensures { 24576 ≡ length result }
-{
-    [0; 24576]
-}
-
-// A file's name as it was passed: at most 4,096 bytes.
-fn name_room() -> [u8; 4096]
-    ensures { 4096 ≡ length result }
-{
-    [0; 4096]
 }
 
 // How many bytes a value takes as text, which goes to the front of a room as far as that holds it.
@@ -92,11 +58,8 @@ fn reason(e: io::Error, room: &mut [u8]) -> usize
     }
 }
 
-// Tells on standard error what failed and why, where it did. What cannot be told is left out.
-fn tell(rt: HostRuntime, what: &[u8], failed: Option<io::Error>) {
-    let Some(e) = failed else {
-        return;
-    };
+// Tells on standard error what failed and why. What cannot be told is left out.
+fn tell(rt: HostRuntime, what: &[u8], e: io::Error) {
     let mut text = [0u8; 256];
     let n = reason(e, &mut text);
     let mut out = rt.stderr();
@@ -106,61 +69,53 @@ fn tell(rt: HostRuntime, what: &[u8], failed: Option<io::Error>) {
     let _ = out.write_all(b"\n");
 }
 
-// The system's number of why an argument is not there as a whole.
-fn number_of(why: FillError) -> i32 {
-    match why {
+// Why an argument is not there as a whole, by the system's number.
+fn not_there(why: FillError) -> io::Error {
+    io::Error::from_raw_os_error(match why {
         FillError::NotPresent => EINVAL,
         FillError::TooLong => ENAMETOOLONG,
-    }
-}
-
-// Nothing is read, for a reason that the system has a number for.
-fn not_read(code: i32) -> Got
-    ensures { result.bytes ≡ 0 }
-{
-    Got {
-        bytes: 0,
-        failed: Some(io::Error::from_raw_os_error(code)),
-    }
+    })
 }
 
 // Reads the file of a name into a room. Paths of std are UTF-8, so another name is refused.
-fn read_file(rt: HostRuntime, name: &[u8], room: &mut [u8]) -> Got
-    ensures { IsPrefixLen result.bytes room.new }
+fn read_file(rt: HostRuntime, name: &[u8], room: &mut [u8]) -> io::Result<usize>
+    ensures { IfOk result (λ n. IsPrefixLen n room.new) }
 {
     let Ok(path) = str::from_utf8(name) else {
-        return not_read(EILSEQ);
+        return Err(io::Error::from_raw_os_error(EILSEQ));
     };
-    match File::open(&rt, path) {
-        Ok(mut file) => intake::fill(&mut file, room),
-        Err(e) => Got {
-            bytes: 0,
-            failed: Some(e),
-        },
+    let mut file = File::open(&rt, path)?;
+    let got = intake::fill(&mut file, room);
+    match got.failed {
+        Some(e) => Err(e),
+        None => Ok(got.bytes),
     }
 }
 
 // Reads the file that an argument names into a room, or says why it cannot.
-fn load(rt: HostRuntime, i: usize, room: &mut [u8]) -> Got
-    ensures { IsPrefixLen result.bytes room.new }
+fn load(rt: HostRuntime, i: usize, room: &mut [u8]) -> Option<usize>
+    ensures { IfSome result (λ n. IsPrefixLen n room.new) }
 {
-    let mut name = name_room();
+    let mut name = [0u8; 4096];
     let n = match rt.arg(i, &mut name) {
         Ok(n) => n,
         Err(why) => {
-            let got = not_read(number_of(why));
-            tell(rt, b"a file's name", got.failed);
-            return got;
+            tell(rt, b"a file's name", not_there(why));
+            return None;
         }
     };
-    let got = read_file(rt, &name[..n], room);
-    tell(rt, &name[..n], got.failed);
-    got
+    match read_file(rt, &name[..n], room) {
+        Ok(bytes) => Some(bytes),
+        Err(e) => {
+            tell(rt, &name[..n], e);
+            None
+        }
+    }
 }
 
 // Says that the file that an argument names is longer than its room.
 fn too_long(rt: HostRuntime, i: usize) {
-    let mut name = name_room();
+    let mut name = [0u8; 4096];
     let n = rt.arg(i, &mut name).unwrap_or(0);
     let mut out = rt.stderr();
     let _ = out.write_all(&name[..n]);
@@ -168,11 +123,11 @@ fn too_long(rt: HostRuntime, i: usize) {
 }
 
 // An accepted run: the result's entries, then where they stand.
-fn accepted<W: Write>(out: &mut W, work: &[u16], first: usize, length: usize) -> io::Result<()>
-    ensures { OnOk result (Appends (W.contents out.old) (W.contents out.new) (stretch_lines work.now first length ++ stretch_line first length)) }
+fn accepted<W: Write>(out: &mut W, work: &[u16], ran: &Ran) -> io::Result<()>
+    ensures { OnOk result (Appends (W.contents out.old) (W.contents out.new) (stretch_lines work.now ran.now.first ran.now.length ++ stretch_line ran.now.first ran.now.length)) }
 {
-    report::stretch(out, work, first, length)?;
-    report::result_at(out, first, length)
+    report::stretch(out, work, ran.first, ran.length)?;
+    report::result_at(out, ran.first, ran.length)
 }
 
 // The operation on a job and values, and what is printed of it.
@@ -186,35 +141,25 @@ fn outcome<W: Write>(
 ) -> io::Result<()>
     ensures { OnOk result (Appends (W.contents out.old) (W.contents out.new) (run_text job.now values.now (length types.old) (length query.old) (length work.old))) }
 {
-    let ran = emberstitch::run_job(job, values, types, query, work);
-    let answer = ran.answer;
-    match answer {
-        Answer::Accepted {
-            first,
-            length,
-            result: _,
-            types: _,
-            nodes: _,
-        } => accepted(out, work, first, length),
-        Answer::Refused { number, place } => report::refused(out, number, place),
+    match emberstitch::run_job(job, values, types, query, work) {
+        Ok(ran) => accepted(out, work, &ran),
+        Err(refusal) => report::refused(out, refusal),
     }
 }
 
 // A job on the values of the second argument's file.
 fn run_on(rt: HostRuntime, job: &[u8]) -> io::Result<()> {
     let mut values = values_room();
-    let got = load(rt, 2, &mut values);
-    let n = got.bytes;
-    if got.failed.is_some() {
+    let Some(n) = load(rt, 2, &mut values) else {
         return Ok(());
-    }
+    };
     if n == values.len() {
         too_long(rt, 2);
         return Ok(());
     }
-    let mut types = type_table();
-    let mut query = query_table();
-    let mut work = work_table();
+    let mut types = [0u16; 12288];
+    let mut query = [0u16; 4096];
+    let mut work = [0u16; 24576];
     outcome(
         &mut rt.stdout(),
         job,
@@ -227,12 +172,10 @@ fn run_on(rt: HostRuntime, job: &[u8]) -> io::Result<()> {
 
 // The job of the first argument's file, on the values of the second's.
 fn run(rt: HostRuntime) -> io::Result<()> {
-    let mut job = job_room();
-    let got = load(rt, 1, &mut job);
-    let n = got.bytes;
-    if got.failed.is_some() {
+    let mut job = [0u8; 43520];
+    let Some(n) = load(rt, 1, &mut job) else {
         return Ok(());
-    }
+    };
     run_on(rt, &job[..n])
 }
 

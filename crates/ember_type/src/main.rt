@@ -10,33 +10,14 @@ ghost use Rattle.ember_type.specs.Prints.{typing_text};
 
 use std::io;
 use std::io::Write;
-use typed::Answer;
-
-// Room for the job, and the two tables.
-fn job_room() -> [u8; 43520]
-    ensures { 43520 ≡ length result }
-{
-    [0; 43520]
-}
-
-fn type_table() -> [u16; 12288]
-    ensures { 12288 ≡ length result }
-{
-    [0; 12288]
-}
-
-fn query_table() -> [u16; 4096]
-    ensures { 4096 ≡ length result }
-{
-    [0; 4096]
-}
+use typed::Typed;
 
 // An accepted job: its entries, then its result.
-fn accepted<W: Write>(out: &mut W, types: &[u16], count: usize, res: usize) -> io::Result<()>
-    ensures { OnOk result (Appends (W.contents out.old) (W.contents out.new) (stretch_lines types.now 0 count ++ result_line res)) }
+fn accepted<W: Write>(out: &mut W, types: &[u16], typed: &Typed) -> io::Result<()>
+    ensures { OnOk result (Appends (W.contents out.old) (W.contents out.new) (stretch_lines types.now 0 typed.now.types ++ result_line typed.now.result)) }
 {
-    report::table(out, types, count)?;
-    report::result(out, res)
+    report::table(out, types, typed.types)?;
+    report::result(out, typed.result)
 }
 
 // The operation on a job, and what is printed of it.
@@ -48,24 +29,17 @@ fn outcome<W: Write>(
 ) -> io::Result<()>
     ensures { OnOk result (Appends (W.contents out.old) (W.contents out.new) (typing_text job.now (length types.old) (length query.old))) }
 {
-    let typed = emberstitch::type_job(job, types, query);
-    let answer = typed.answer;
-    match answer {
-        Answer::Accepted {
-            result,
-            types: count,
-            nodes: _,
-        } => accepted(out, types, count, result),
-        Answer::Refused { number, place } => report::refused(out, number, place),
+    match emberstitch::type_job(job, types, query) {
+        Ok(typed) => accepted(out, types, &typed),
+        Err(refusal) => report::refused(out, refusal),
     }
 }
 
 // A read that fails ends the job, as its end does.
 fn main(rt: HostRuntime) -> io::Result<()> {
-    let mut job = job_room();
-    let got = intake::fill(&mut rt.stdin(), &mut job);
-    let n = got.bytes;
-    let mut types = type_table();
-    let mut query = query_table();
+    let mut job = [0u8; 43520];
+    let n = intake::fill(&mut rt.stdin(), &mut job).bytes;
+    let mut types = [0u16; 12288];
+    let mut query = [0u16; 4096];
     outcome(&mut rt.stdout(), &job[..n], &mut types, &mut query)
 }

@@ -1,8 +1,8 @@
 -- The C call's number: places and lengths are below 2^32, so the number tells the answer apart from every other.
 -- Assumes nothing.
-use mathlib.Core.Path.{◌≡◌, refl, ap, sym, subst, ◌∙◌}
+use mathlib.Core.Path.{◌≡◌, ap, sym, ◌∙◌}
 use mathlib.Core.List.{List}
-use Prim.Native.Nat.{ℕ, ◌/◌, ◌%◌, ◌<◌}
+use Prim.Native.Nat.{ℕ, ◌+◌, ◌*◌, ◌/◌, ◌%◌, ◌<◌}
 use native.Mathlib.Omega.{arith}
 use lib.ListN.{length}
 use Rattle.meaning.specs.Base.{Out, ok, refused, ◌>>=◌, caps_of}
@@ -14,8 +14,12 @@ use Rattle.meaning.proofs.Jobs.{Listed, TypedWell, type_refuses}
 use Rattle.meaning.proofs.Reading.{caps_of_small}
 use Rattle.meaning.proofs.FileLength.{file_short}
 use Rattle.answers.proofs.Back.{Fitted, fits, short, fitted_is, file_of}
+use Rattle.std.specs.Prelude.{Result, Ok, Err}
+use Rattle.refusals.specs.declared.Refusal.{Refusal}
+use Rattle.refusals.specs.Says as Refusals
 use Rattle.answered.specs.declared.Answered.{Answered}
-use Rattle.answered.specs.Says.{answered_of}
+use Rattle.answered.specs.Says.{seen, answered_of}
+use Rattle.refusals.proofs.Told.{told_err}
 use Rattle.emberstitch.specs.Promises as Promises
 use Rattle.emberstitch.specs.Promises.{AnswerJob, Call, number_of}
 
@@ -35,23 +39,26 @@ answer_small tw cw room s = ends_bind (ends_by (type_refuses s (caps_of_small tw
     fit {t} w (short h) = stops {n = 17} {p = length (file_of t)} (record { least = omega arith; most = omega arith; place = file_small tw cw w })
 
 -- THE NUMBER of an answer is the outcome's, and fits
-number_packed : (o : Out Answers.Answered) → number_of (answered_of o).answer ≡ packed o
+number_packed : (r : Result Answered Refusal) (o : Out Answers.Answered) → Refusals.told r ≡ answered_of o → number_of r ≡ packed o
 unfolding answered_of
-number_packed (ok a) = refl
-number_packed (refused n place) = refl
+number_packed (Ok x) (ok a) e = let q : x ≡ seen a = cc in ap (λ (y : Answered). y.length) q
+number_packed (Ok x) (refused n place) e = cc
+number_packed (Err x) (ok a) e = cc
+number_packed (Err x) (refused n place) e = let q = told_err x e in λ i. 4294967296 * q.0 i + q.1 i
 
-told_small : {o : Out Answers.Answered} → Told o → Promises.Small (answered_of o).answer
+told_small : (r : Result Answered Refusal) {o : Out Answers.Answered} → Refusals.told r ≡ answered_of o → Told o → Promises.Small r
 unfolding answered_of
-told_small (gives h) = tt
-told_small (stops h) = h.place
+told_small (Ok x) e t = tt
+told_small (Err x) e (gives h) = cc
+told_small (Err x) e (stops h) = omega (arith, (told_err x e).1, h.place)
 
-pub job_small : {job u w b : List ℕ} {types query bytes : ℕ} {r : Answered} → AnswerJob job types query bytes r u w b → Promises.Small r.answer
-job_small {job} {types = types} {query} {bytes} p = subst (λ (x : Answered). Promises.Small x.answer) (sym p.answer) (told_small (answer_small types query bytes job))
+pub job_small : {job u w b : List ℕ} {types query bytes : ℕ} {r : Result Answered Refusal} → AnswerJob job types query bytes r u w b → Promises.Small r
+job_small {job} {types = types} {query} {bytes} {r} p = told_small r p.answer (answer_small types query bytes job)
 
 -- answering with tables of full capacity is the call
-pub job_called : {job u w b : List ℕ} {bytes n : ℕ} {r : Answered} → AnswerJob job 12288 4096 bytes r u w b → n ≡ number_of r.answer → Call job bytes n b
-job_called {job} {bytes = bytes} p e =
-    record { number = e ∙ ap (λ (x : Answered). number_of x.answer) p.answer ∙ number_packed (answer_job (caps_of 12288 4096) bytes job); answer_left = p.answer_left }
+pub job_called : {job u w b : List ℕ} {bytes n : ℕ} {r : Result Answered Refusal} → AnswerJob job 12288 4096 bytes r u w b → n ≡ number_of r → Call job bytes n b
+job_called {job} {bytes = bytes} {r = r} p e =
+    record { number = e ∙ number_packed r (answer_job (caps_of 12288 4096) bytes job) p.answer; answer_left = p.answer_left }
 
 -- IT TELLS THE ANSWER: 0 and the length, or the refusal and its place; so no two different answers have one number
 abbrev pub tells : Out Answers.Answered → ℕ × ℕ

@@ -20,7 +20,12 @@ use Rattle.meaning.proofs.Ends.{Keeps, kept}
 use Rattle.meaning.proofs.Reading.{reads_nothing}
 use Rattle.meaning.proofs.Larger.{read_keeps}
 use Rattle.meaning.proofs.Worked.{everything}
-use Rattle.jobs.specs.declared.Answer.TheVariants.{Accepted, Refused}
+use Rattle.std.specs.Prelude.{Result, Ok, Err}
+use Rattle.refusals.specs.declared.Reason.{Reason}
+use Rattle.refusals.specs.declared.Refusal.{Refusal}
+use Rattle.refusals.specs.Says.{number_of}
+use Rattle.refusals.proofs.Told.{told_ok, told_same}
+use Rattle.reading.specs.Says.{given_of}
 use Rattle.jobs.specs.declared.Job.{Job}
 use Rattle.jobs.specs.Says.{job_of}
 use Rattle.emberstitch.specs.Promises.{ReadJob}
@@ -52,18 +57,18 @@ unfolding read_job
 no_room types query job l = rw (reads_nothing (caps_of types query) Records.job job (omega (arith, l)))
 
 -- a refusal, by the promise
-refused_leaves : {job u w : List ℕ} {types query n place : ℕ} {r : Job} → read_job (caps_of types query) job ≡ refused n place → ReadJob job types query r u w → (r.answer ≡ Refused n place) × (u ≡ zeros types) × (w ≡ zeros query)
+refused_leaves : {job u w : List ℕ} {types query : ℕ} {r : Result Job Refusal} (x : Refusal) → read_job (caps_of types query) job ≡ refused (number_of x.reason) x.place → ReadJob job types query r u w → (r ≡ Err x) × (u ≡ zeros types) × (w ≡ zeros query)
 unfolding job_of
-refused_leaves {types = types} {query = query} e p =
-    (ap (λ (j : Job). j.answer) (p.answer ∙ ap job_of e), p.types_left ∙ ap (read_types types) e, p.query_left ∙ ap (read_code query) e)
+refused_leaves {types = types} {query = query} {r} x e p =
+    (told_same r (Err x) (p.answer ∙ ap job_of e), p.types_left ∙ ap (read_types types) e, p.query_left ∙ ap (read_code query) e)
 
-module _ {types query : ℕ} {r : Job} {u w : List ℕ} where
-  pub accepts_P10 : 6 ≤ types → 4 ≤ query → ReadJob P10 types query r u w → r.answer ≡ Accepted 2 1
+module _ {types query : ℕ} {r : Result Job Refusal} {u w : List ℕ} where
+  pub accepts_P10 : 6 ≤ types → 4 ≤ query → ReadJob P10 types query r u w → r ≡ Ok (record { types = 2; nodes = 1; given = given_of P10_tables })
   unfolding job_of P10_tables
-  accepts_P10 l m p = ap (λ (j : Job). j.answer) (p.answer ∙ ap job_of (P10_reads types query l m))
+  accepts_P10 l m p = told_ok r (p.answer ∙ ap job_of (P10_reads types query l m))
 
-  pub refuses_P10_cut : 6 ≤ types → ReadJob (take 13 P10) types query r u w → (r.answer ≡ Refused 1 8) × (u ≡ zeros types) × (w ≡ zeros query)
-  refuses_P10_cut l p = refused_leaves (P10_cut types query l) p
+  pub refuses_P10_cut : 6 ≤ types → ReadJob (take 13 P10) types query r u w → (r ≡ Err (record { reason = Reason.Cut; place = 8 })) × (u ≡ zeros types) × (w ≡ zeros query)
+  refuses_P10_cut l p = refused_leaves (record { reason = Reason.Cut; place = 8 }) (P10_cut types query l) p
 
-  pub refuses_without_room : {job : List ℕ} → types < 6 → ReadJob job types query r u w → (r.answer ≡ Refused 5 0) × (u ≡ zeros types) × (w ≡ zeros query)
-  refuses_without_room {job} l p = refused_leaves (no_room types query job l) p
+  pub refuses_without_room : {job : List ℕ} → types < 6 → ReadJob job types query r u w → (r ≡ Err (record { reason = Reason.TooMany; place = 0 })) × (u ≡ zeros types) × (w ≡ zeros query)
+  refuses_without_room {job} l p = refused_leaves (record { reason = Reason.TooMany; place = 0 }) (no_room types query job l) p

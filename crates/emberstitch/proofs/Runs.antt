@@ -34,12 +34,15 @@ use Rattle.meaning.proofs.Worked.{everything}
 use Rattle.words.specs.Tables.{table_of, vars_of}
 use Rattle.words.proofs.Tables.{table_lent}
 use Rattle.reading.specs.Says.{given_of}
-use Rattle.typed.specs.declared.Answer.TheVariants as Told
+use Rattle.std.specs.Prelude.{Result, Ok, Err}
+use Rattle.refusals.specs.declared.Reason.{Reason}
+use Rattle.refusals.specs.declared.Refusal.{Refusal}
+use Rattle.refusals.specs.Says.{told, number_of}
+use Rattle.refusals.proofs.Told.{told_ok, told_same}
 use Rattle.typed.specs.declared.Typed.{Typed}
 use Rattle.typed.proofs.Telling as Typings
 use Rattle.typed.proofs.Telling.{holds_table, holds_defs, holds_vars}
 use Rattle.values.proofs.Loading.{load_read, load_declared}
-use Rattle.ran.specs.declared.Answer.TheVariants.{Accepted, Refused}
 use Rattle.ran.specs.declared.Ran.{Ran}
 use Rattle.ran.specs.Says.{ran_of}
 use Rattle.ran.proofs.Telling as Telling
@@ -63,33 +66,33 @@ typed_one job types query types₁ query₁ {t} {t₁} e f =
 
 -- WHAT A RUN LEAVES, in terms of what typing left: one forest stands where the answer says; it is in the result entry; what the run says of the typing is
 -- what typing says; and each tree variable has one tree
-pub record InResult (values : List ℕ) (r : Typed) (u : List ℕ) (result count nodes : ℕ) (a : Ran) (x z : List ℕ) (first n result₁ count₁ nodes₁ : ℕ) : Type 0 where
+pub record InResult (values : List ℕ) (r : Typed) (u : List ℕ) (a : Ran) (x z : List ℕ) : Type 0 where
   pub forest : Forest
-  pub stands : Stands z first n forest
-  pub only : (g : Forest) → Stands z first n g → g ≡ forest
-  pub has : Has (take r.given.used r.given.defs) (table_of u count) result forest
-  pub same_answer : (result₁ ≡ result) × (count₁ ≡ count) × (nodes₁ ≡ nodes)
+  pub stands : Stands z a.first a.length forest
+  pub only : (g : Forest) → Stands z a.first a.length g → g ≡ forest
+  pub has : Has (take r.given.used r.given.defs) (table_of u r.types) r.result forest
+  pub same_answer : (a.result ≡ r.result) × (a.types ≡ r.types) × (a.nodes ≡ r.nodes)
   pub same_given : a.given ≡ r.given
-  pub same_table : table_of x count₁ ≡ table_of u count
+  pub same_table : table_of x a.types ≡ table_of u r.types
   pub one_tree_lem : Bytes values → (vs : List Value) → read_values (vars_of r.given.vars r.given.declared) values 0 ≡ ok vs → (i : ℕ) (v : Value) → At vs i v → (e : ℕ) → v.declared.1 ≡ Records.tree e → trees v.part.forest ≡ 1
 
-module _ {job values u w x y z : List ℕ} {types query types₁ query₁ work result count nodes first n result₁ count₁ nodes₁ : ℕ} {r : Typed} {a : Ran} (p : TypeJob job types query r u w) (e : r.answer ≡ Told.Accepted result count nodes) (q : RunJob job values types₁ query₁ work a x y z) (f : a.answer ≡ Accepted first n result₁ count₁ nodes₁) where
-  told : Typings.Accepts types query job result count nodes r u w
-  told = Typings.told_accepted job (record { answer = p.answer; types = p.types_left; code = p.query_left }) e
+module _ {job values u w x y z : List ℕ} {types query types₁ query₁ work : ℕ} {r : Typed} {a : Ran} (p : TypeJob job types query (Ok r) u w) (q : RunJob job values types₁ query₁ work (Ok a) x y z) where
+  typing : Typings.Accepts types query job r u w
+  typing = Typings.told_accepted job (record { answer = p.answer; types = p.types_left; code = p.query_left })
 
-  ran : Telling.Accepts work first n result₁ count₁ nodes₁ a z (run_job (caps_of types₁ query₁) (work_capacity work) job values)
-  ran = Telling.told_accepted (run_job (caps_of types₁ query₁) (work_capacity work) job values) (record { answer = q.answer; types = q.types_left; code = q.query_left; work = q.work_left }) f
+  ran : Telling.Accepts work a z (run_job (caps_of types₁ query₁) (work_capacity work) job values)
+  ran = Telling.told_accepted (run_job (caps_of types₁ query₁) (work_capacity work) job values) (record { answer = q.answer; types = q.types_left; code = q.query_left; work = q.work_left })
 
   made : Telling.Made (caps_of types₁ query₁) (work_capacity work) job values ran.ran
   made = run_made ran.is
 
   t : Typing.Typed
-  t = told.typed
+  t = typing.typed
 
   -- both typed it alike
   alike : ran.ran.typed ≡ t
   unfolding t
-  alike = sym (typed_one job types query types₁ query₁ told.is made.is_typed_lem)
+  alike = sym (typed_one job types query types₁ query₁ typing.is made.is_typed_lem)
 
   -- the forests read were loaded, and are in their declared types in the table as it was read
   loaded : load_values (work_capacity work) t.job.vars values ≡ ok made.forests
@@ -97,28 +100,28 @@ module _ {job values u w x y z : List ℕ} {types query types₁ query₁ work r
 
   read : read_values (vars_of r.given.vars r.given.declared) values 0 ≡ ok made.forests
   unfolding t
-  read = ap (λ vars. read_values vars values 0) (holds_vars told.holds) ∙ (load_read (work_capacity work) t.job.vars values loaded).0
+  read = ap (λ vars. read_values vars values 0) (holds_vars typing.holds) ∙ (load_read (work_capacity work) t.job.vars values loaded).0
 
-  module _ (given : (vs : List Value) → read_values (vars_of r.given.vars r.given.declared) values 0 ≡ ok vs → InTypes (take r.given.used r.given.defs) (table_of u count) vs) where
+  module _ (given : (vs : List Value) → read_values (vars_of r.given.vars r.given.declared) values 0 ≡ ok vs → InTypes (take r.given.used r.given.defs) (table_of u r.types) vs) where
     agree : Agree t.job.defs t.job.types t.job.vars (env_of made.forests)
     unfolding t
     agree v x i =
-        let h = told.holds in
+        let h = typing.holds in
         let held : InTypes t.job.defs t.left.types made.forests = rw (holds_defs h, holds_table h) at (given made.forests read) in
         let now : Agree t.job.defs t.left.types t.job.vars (env_of made.forests) = rw (load_declared (work_capacity work) t.job.vars values loaded) at (values_agree t.job.defs t.left.types made.forests held.each) in
-        has_older told.well.accepted.formed told.well.grown.grows (told.well.accepted.scoped v x i) (now v x i)
+        has_older typing.well.accepted.formed typing.well.grown.grows (typing.well.accepted.scoped v x i) (now v x i)
 
-    in_result : Has (take r.given.used r.given.defs) (table_of u count) result ran.ran.result
+    in_result : Has (take r.given.used r.given.defs) (table_of u r.types) r.result ran.ran.result
     unfolding t
     in_result =
-        let h = told.holds in
+        let h = typing.holds in
         let g = ran.ran.result in
         let sound : Has t.job.defs t.left.types t.result g
-        = eval_sound (caps_of_small types query) job t told.is (env_of made.forests) agree (work_capacity work) _ g (ap (λ (s : Typing.Typed). Running.eval (work_capacity work) (Typing.root s.job) (env_of made.forests) (size (joined made.forests))) (sym alike) ∙ made.is_evaluated) in
-        subst (λ (d : Defs). Has d (table_of u count) result g) (sym (holds_defs h)) (subst (λ (T : Table). Has t.job.defs T result g) (sym (holds_table h)) (subst (λ (k : ℕ). Has t.job.defs t.left.types k g) (sym h.named) sound))
+        = eval_sound (caps_of_small types query) job t typing.is (env_of made.forests) agree (work_capacity work) _ g (ap (λ (s : Typing.Typed). Running.eval (work_capacity work) (Typing.root s.job) (env_of made.forests) (size (joined made.forests))) (sym alike) ∙ made.is_evaluated) in
+        subst (λ (d : Defs). Has d (table_of u r.types) r.result g) (sym (holds_defs h)) (subst (λ (T : Table). Has t.job.defs T r.result g) (sym (holds_table h)) (subst (λ (k : ℕ). Has t.job.defs t.left.types k g) (sym h.named) sound))
 
     -- where the answer says
-    result_stands : Stands z first n ran.ran.result
+    result_stands : Stands z a.first a.length ran.ran.result
     result_stands =
         let front = forest_words ran.ran.loaded in
         let back = forest_words ran.ran.result in
@@ -126,24 +129,24 @@ module _ {job values u w x y z : List ℕ} {types query types₁ query₁ work r
         record {
           entries = sym ran.length_is;
           words =
-              ap (λ (l : List ℕ). take (forest_width * n) (drop (forest_width * first) l)) (ran.work ∙ append_assoc front back blank)
-              ∙ ap (take (forest_width * n)) (drop_at front (back ++ blank) (forest_width * first) (omega (arith, length_words ran.ran.loaded, ran.first_is)))
-              ∙ take_at back blank (forest_width * n) (omega (arith, length_words ran.ran.result, ran.length_is));
+              ap (λ (l : List ℕ). take (forest_width * a.length) (drop (forest_width * a.first) l)) (ran.work ∙ append_assoc front back blank)
+              ∙ ap (take (forest_width * a.length)) (drop_at front (back ++ blank) (forest_width * a.first) (omega (arith, length_words ran.ran.loaded, ran.first_is)))
+              ∙ take_at back blank (forest_width * a.length) (omega (arith, length_words ran.ran.result, ran.length_is));
         }
 
     -- the run's own type table
-    own_table : table_of x count₁ ≡ table_of u count
+    own_table : table_of x a.types ≡ table_of u r.types
     unfolding t
     own_table =
         let left : x ≡ padded types₁ (table_words t.left.types) = q.types_left ∙ ap (λ (o : Out Running.Ran). typed_types types₁ (ran_typed o)) ran.is ∙ ap (λ (s : Typing.Typed). padded types₁ (table_words s.left.types)) alike in
-        let many : count₁ ≡ length t.left.types = ran.entries ∙ ap (λ (s : Typing.Typed). length s.left.types) alike in
-        ap (table_of x) many ∙ ap (λ (ws : List ℕ). table_of ws (length t.left.types)) left ∙ table_lent types₁ t.left.types ∙ sym (holds_table told.holds)
+        let many : a.types ≡ length t.left.types = ran.entries ∙ ap (λ (s : Typing.Typed). length s.left.types) alike in
+        ap (table_of x) many ∙ ap (λ (ws : List ℕ). table_of ws (length t.left.types)) left ∙ table_lent types₁ t.left.types ∙ sym (holds_table typing.holds)
 
     -- DEMAND 3: if each forest read from the values file is in its variable's declared type, the forest that the run leaves is in the result entry
-    pub run_in_type : InResult values r u result count nodes a x z first n result₁ count₁ nodes₁
+    pub run_in_type : InResult values r u a x z
     unfolding t
     run_in_type =
-        let h = told.holds in
+        let h = typing.holds in
         record {
           forest = ran.ran.result;
           stands = result_stands;
@@ -186,7 +189,7 @@ two_result = tree 7 (tree 2 end end) (tree 7 (tree 3 end end) end)
 unfoldable pub nested : Forest
 nested = tree 2 (tree 3 end end) end
 
-two_typed : Typing.Typed
+pub two_typed : Typing.Typed
 two_typed =
     record {
       job = record {
@@ -210,7 +213,7 @@ two_runs : run_job (room 8 4) 8 two two_values ≡ ok (record { typed = two_type
 unfolding everything two two_values two_typed two_forest two_result
 two_runs = refl
 
-nested_typed : Typing.Typed
+pub nested_typed : Typing.Typed
 nested_typed =
     record {
       job = record {
@@ -248,45 +251,42 @@ J_refused types query work i j k l =
     rw (typed_with J 10 10 types query J_least (omega (arith, i)) (omega (arith, j)), five, J_full, J_stops)
 
 -- WHAT A PROMISE GIVES for an accepted run, and for a refused one
-module _ {job values u w x : List ℕ} {types query work : ℕ} {r : Ran} (p : RunJob job values types query work r u w x) where
-  accepted_leaves : {a : Running.Ran} → run_job (caps_of types query) (work_capacity work) job values ≡ ok a → (r ≡ ran_of (ok a)) × (x ≡ padded work (forest_words a.loaded ++ forest_words a.result))
+module _ {job values u w x : List ℕ} {types query work : ℕ} {r : Result Ran Refusal} (p : RunJob job values types query work r u w x) where
+  accepted_leaves : {a : Running.Ran} → run_job (caps_of types query) (work_capacity work) job values ≡ ok a → (told r ≡ ran_of (ok a)) × (x ≡ padded work (forest_words a.loaded ++ forest_words a.result))
   accepted_leaves e = (p.answer ∙ ap ran_of e, p.work_left ∙ ap (work_words work) e)
 
-  refused_leaves : {n place : ℕ} → run_job (caps_of types query) (work_capacity work) job values ≡ refused n place → (r.answer ≡ Refused n place) × (u ≡ zeros types) × (w ≡ zeros query) × (x ≡ zeros work)
+  refused_leaves : (d : Refusal) → run_job (caps_of types query) (work_capacity work) job values ≡ refused (number_of d.reason) d.place → (r ≡ Err d) × (u ≡ zeros types) × (w ≡ zeros query) × (x ≡ zeros work)
   unfolding ran_of
-  refused_leaves e =
-      (ap (λ (j : Ran). j.answer) (p.answer ∙ ap ran_of e), p.types_left ∙ ap (λ (o : Out Running.Ran). typed_types types (ran_typed o)) e, p.query_left ∙ ap (λ (o : Out Running.Ran). typed_code query (ran_typed o)) e, p.work_left ∙ ap (work_words work) e)
+  refused_leaves d e =
+      (told_same r (Err d) (p.answer ∙ ap ran_of e), p.types_left ∙ ap (λ (o : Out Running.Ran). typed_types types (ran_typed o)) e, p.query_left ∙ ap (λ (o : Out Running.Ran). typed_code query (ran_typed o)) e, p.work_left ∙ ap (work_words work) e)
 
-module _ {types query work : ℕ} {r : Ran} {u w x : List ℕ} where
+module _ {types query work : ℕ} {r : Result Ran Refusal} {u w x : List ℕ} where
   -- J IN 6 ENTRIES OR MORE: three entries from the first on, and zeros
-  pub runs_J : 30 ≤ types → 40 ≤ query → 18 ≤ work → RunJob J [] types query work r u w x → (r.answer ≡ Accepted 0 3 9 10 10) × (x ≡ padded work (65 ∷ 2 ∷ 0 ∷ 65 ∷ 3 ∷ 0 ∷ 65 ∷ 2 ∷ 0 ∷ []))
+  pub runs_J : 30 ≤ types → 40 ≤ query → 18 ≤ work → RunJob J [] types query work r u w x → (r ≡ Ok (record { first = 0; length = 3; result = 9; types = 10; nodes = 10; given = given_of J_tables })) × (x ≡ padded work (65 ∷ 2 ∷ 0 ∷ 65 ∷ 3 ∷ 0 ∷ 65 ∷ 2 ∷ 0 ∷ []))
   unfolding ran_of J_typed J_tables J_forest size forest_words everything
   runs_J i j k p =
       let a = accepted_leaves p (ran_with J [] 10 10 6 types query work J_runs (omega (arith, i)) (omega (arith, j)) (omega (arith, k))) in
-      (ap (λ (j : Ran). j.answer) a.0, a.1)
+      (told_ok r a.0, a.1)
 
   -- so what refuses is no run of it, whatever the number and the place; nor is what writes nothing
-  pub J_not_refused : 30 ≤ types → 40 ≤ query → 18 ≤ work → RunJob J [] types query work r u w x → (n place : ℕ) → r.answer ≡ Refused n place → ⊥
-  J_not_refused i j k p n place e =
-      let q : Accepted 0 3 9 10 10 ≡ Refused n place = sym (runs_J i j k p).0 ∙ e in
-      let z : ◌≡◌ {A = ℕ} 0 1 = cc in
-      omega arith
+  pub J_not_refused : 30 ≤ types → 40 ≤ query → 18 ≤ work → RunJob J [] types query work r u w x → (d : Refusal) → r ≡ Err d → ⊥
+  J_not_refused i j k p d e = let q = sym (runs_J i j k p).0 ∙ e in cc
 
   pub J_not_blank : 30 ≤ types → 40 ≤ query → 18 ≤ work → RunJob J [] types query work r u w x → x ≡ zeros work → ⊥
   unfolding zeros
   J_not_blank i j k p e = omega (arith, ap (λ (l : List ℕ). get_or l 0 0) (sym (runs_J i j k p).1 ∙ e), get_or-replicate {A = ℕ} work 0 0 0 (omega (arith, k)))
 
   -- J IN 5 ENTRIES: 21 at 8, and every word of the three tables is zero
-  pub refuses_J : 30 ≤ types → 40 ≤ query → 15 ≤ work → work < 18 → RunJob J [] types query work r u w x → (r.answer ≡ Refused 21 8) × (u ≡ zeros types) × (w ≡ zeros query) × (x ≡ zeros work)
-  refuses_J i j k l p = refused_leaves p (J_refused types query work i j k l)
+  pub refuses_J : 30 ≤ types → 40 ≤ query → 15 ≤ work → work < 18 → RunJob J [] types query work r u w x → (r ≡ Err (record { reason = Reason.WorkFull; place = 8 })) × (u ≡ zeros types) × (w ≡ zeros query) × (x ≡ zeros work)
+  refuses_J i j k l p = refused_leaves p (record { reason = Reason.WorkFull; place = 8 }) (J_refused types query work i j k l)
 
   -- TWO TREES: 7[2[]] and 7[3[]] behind the values
   pub runs_two : 24 ≤ types → 16 ≤ query → 24 ≤ work → RunJob two two_values types query work r u w x
-      → (r.answer ≡ Accepted 2 4 7 8 4) × (x ≡ padded work (65 ∷ 2 ∷ 0 ∷ 65 ∷ 3 ∷ 0 ∷ 65 ∷ 7 ∷ 1 ∷ 65 ∷ 2 ∷ 0 ∷ 65 ∷ 7 ∷ 1 ∷ 65 ∷ 3 ∷ 0 ∷ []))
+      → (r ≡ Ok (record { first = 2; length = 4; result = 7; types = 8; nodes = 4; given = given_of two_typed.job })) × (x ≡ padded work (65 ∷ 2 ∷ 0 ∷ 65 ∷ 3 ∷ 0 ∷ 65 ∷ 7 ∷ 1 ∷ 65 ∷ 2 ∷ 0 ∷ 65 ∷ 7 ∷ 1 ∷ 65 ∷ 3 ∷ 0 ∷ []))
   unfolding ran_of two_typed two_forest two_result size forest_words everything
   runs_two i j k p =
       let a = accepted_leaves p (ran_with two two_values 8 4 8 types query work two_runs (omega (arith, i)) (omega (arith, j)) (omega (arith, k))) in
-      (ap (λ (j : Ran). j.answer) a.0, a.1)
+      (told_ok r a.0, a.1)
 
   -- so what runs the body on the first tree and copies that result for the rest is no run of it; nor what moves the first body down before the second tree
   -- is read, which then finds 2[] in its place
@@ -296,11 +296,11 @@ module _ {types query work : ℕ} {r : Ran} {u w x : List ℕ} where
 
   -- P5 ON 2[3[]]: the tree and what is below it
   pub runs_nested : 18 ≤ types → 4 ≤ query → 15 ≤ work → RunJob P5 nested_values types query work r u w x
-      → (r.answer ≡ Accepted 2 3 5 6 1) × (x ≡ padded work (65 ∷ 2 ∷ 1 ∷ 65 ∷ 3 ∷ 0 ∷ 65 ∷ 2 ∷ 1 ∷ 65 ∷ 3 ∷ 0 ∷ 65 ∷ 3 ∷ 0 ∷ []))
+      → (r ≡ Ok (record { first = 2; length = 3; result = 5; types = 6; nodes = 1; given = given_of nested_typed.job })) × (x ≡ padded work (65 ∷ 2 ∷ 1 ∷ 65 ∷ 3 ∷ 0 ∷ 65 ∷ 2 ∷ 1 ∷ 65 ∷ 3 ∷ 0 ∷ 65 ∷ 3 ∷ 0 ∷ []))
   unfolding ran_of nested_typed nested size forest_words everything
   runs_nested i j k p =
       let a = accepted_leaves p (ran_with P5 nested_values 6 1 5 types query work nested_runs (omega (arith, i)) (omega (arith, j)) (omega (arith, k))) in
-      (ap (λ (j : Ran). j.answer) a.0, a.1)
+      (told_ok r a.0, a.1)
 
   -- so a dos without the tree itself is none
   pub nested_not_below_alone : 18 ≤ types → 4 ≤ query → 15 ≤ work → RunJob P5 nested_values types query work r u w x → x ≡ padded work (65 ∷ 2 ∷ 1 ∷ 65 ∷ 3 ∷ 0 ∷ 65 ∷ 3 ∷ 0 ∷ []) → ⊥

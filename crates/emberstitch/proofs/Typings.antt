@@ -24,8 +24,12 @@ use Rattle.meaning.proofs.Larger.{read_keeps}
 use Rattle.meaning.proofs.Jobs.{typing_keeps, prefix_typing}
 use Rattle.meaning.proofs.Worked.{everything}
 use Rattle.words.specs.Tables.{entry_at}
-use Rattle.typed.specs.declared.Answer.{Answer}
-use Rattle.typed.specs.declared.Answer.TheVariants.{Accepted, Refused}
+use Rattle.std.specs.Prelude.{Result, Ok, Err}
+use Rattle.refusals.specs.declared.Reason.{Reason}
+use Rattle.refusals.specs.declared.Refusal.{Refusal}
+use Rattle.refusals.specs.Says.{told, number_of}
+use Rattle.refusals.proofs.Told.{told_ok, told_same}
+use Rattle.reading.specs.Says.{given_of}
 use Rattle.typed.specs.declared.Typed.{Typed}
 use Rattle.typed.specs.Says.{typed_of}
 use Rattle.emberstitch.specs.Promises.{TypeJob}
@@ -38,7 +42,7 @@ P10_typed = record { job = P10_tables; left = record { types = base }; result = 
 unfoldable pub nothing : List ℕ
 nothing = Worked.job_of ((32 ∷ []) ∷ [])
 
-nothing_typed : Typing.Typed
+pub nothing_typed : Typing.Typed
 nothing_typed = record { job = record { types = base; defs = []; vars = []; code = node 32 0 0 0 ∷ []; result = none; section = Records.query }; left = record { types = base }; result = 0 }
 
 unfoldable pub J : List ℕ
@@ -118,45 +122,45 @@ J_refused types query l k m =
     rw (keeps_ok (read_keeps (room 2 10) (caps_of types query) (omega (arith, l)) (omega (arith, m)) J) J_reads, nine) J_full
 
 -- WHAT A PROMISE GIVES for an accepted job, and for a refused one
-module _ {job u w : List ℕ} {types query : ℕ} {r : Typed} (p : TypeJob job types query r u w) where
-  accepted_leaves : {t : Typing.Typed} → type_job (caps_of types query) job ≡ ok t → (r ≡ typed_of (ok t)) × (u ≡ padded types (table_words t.left.types))
+module _ {job u w : List ℕ} {types query : ℕ} {r : Result Typed Refusal} (p : TypeJob job types query r u w) where
+  accepted_leaves : {t : Typing.Typed} → type_job (caps_of types query) job ≡ ok t → (told r ≡ typed_of (ok t)) × (u ≡ padded types (table_words t.left.types))
   accepted_leaves e = (p.answer ∙ ap typed_of e, p.types_left ∙ ap (typed_types types) e)
 
-  refused_leaves : {n place : ℕ} → type_job (caps_of types query) job ≡ refused n place → (r.answer ≡ Refused n place) × (u ≡ zeros types) × (w ≡ zeros query)
+  refused_leaves : (x : Refusal) → type_job (caps_of types query) job ≡ refused (number_of x.reason) x.place → (r ≡ Err x) × (u ≡ zeros types) × (w ≡ zeros query)
   unfolding typed_of
-  refused_leaves e = (ap (λ (j : Typed). j.answer) (p.answer ∙ ap typed_of e), p.types_left ∙ ap (typed_types types) e, p.query_left ∙ ap (typed_code query) e)
+  refused_leaves x e = (told_same r (Err x) (p.answer ∙ ap typed_of e), p.types_left ∙ ap (typed_types types) e, p.query_left ∙ ap (typed_code query) e)
 
 -- the entry that an answer names, in the words that are left
-abbrev pub named : Answer → List ℕ → Option Entry
-named (Accepted e n m) u = some (entry_at u e)
-named (Refused n place) u = none
+abbrev pub named : Result Typed Refusal → List ℕ → Option Entry
+named (Ok t) u = some (entry_at u t.result)
+named (Err r) u = none
 
-module _ {types query : ℕ} {r : Typed} {u w : List ℕ} where
+module _ {types query : ℕ} {r : Result Typed Refusal} {u w : List ℕ} where
   -- P10: result 1, two entries
-  pub types_P10 : 6 ≤ types → 4 ≤ query → TypeJob P10 types query r u w → (r.answer ≡ Accepted 1 2 1) × (named r.answer u ≡ some Types.string)
+  pub types_P10 : 6 ≤ types → 4 ≤ query → TypeJob P10 types query r u w → (r ≡ Ok (record { result = 1; types = 2; nodes = 1; given = given_of P10_tables })) × (named r u ≡ some Types.string)
   unfolding typed_of P10_typed P10_tables everything
   types_P10 l m p =
       let a = accepted_leaves p (typed_with P10 2 1 types query P10_least (omega (arith, l)) (omega (arith, m))) in
-      let e : r.answer ≡ Accepted 1 2 1 = ap (λ (j : Typed). j.answer) a.0 in
+      let e : r ≡ Ok (record { result = 1; types = 2; nodes = 1; given = given_of P10_tables }) = told_ok r a.0 in
       (e, rw (e, a.1))
 
   -- the query (): result 0
-  pub types_nothing : 6 ≤ types → 4 ≤ query → TypeJob nothing types query r u w → (r.answer ≡ Accepted 0 2 1) × (named r.answer u ≡ some Types.empty)
+  pub types_nothing : 6 ≤ types → 4 ≤ query → TypeJob nothing types query r u w → (r ≡ Ok (record { result = 0; types = 2; nodes = 1; given = given_of nothing_typed.job })) × (named r u ≡ some Types.empty)
   unfolding typed_of nothing_typed everything
   types_nothing l m p =
       let a = accepted_leaves p (typed_with nothing 2 1 types query nothing_least (omega (arith, l)) (omega (arith, m))) in
-      let e : r.answer ≡ Accepted 0 2 1 = ap (λ (j : Typed). j.answer) a.0 in
+      let e : r ≡ Ok (record { result = 0; types = 2; nodes = 1; given = given_of nothing_typed.job }) = told_ok r a.0 in
       (e, rw (e, a.1))
 
   -- J: result 9, ten entries
-  pub types_J : 30 ≤ types → 40 ≤ query → TypeJob J types query r u w → (r.answer ≡ Accepted 9 10 10) × (u ≡ padded types J_words)
+  pub types_J : 30 ≤ types → 40 ≤ query → TypeJob J types query r u w → (r ≡ Ok (record { result = 9; types = 10; nodes = 10; given = given_of J_tables })) × (u ≡ padded types J_words)
   unfolding typed_of J_typed J_tables
   types_J l m p =
       let a = accepted_leaves p (typed_with J 10 10 types query J_least (omega (arith, l)) (omega (arith, m))) in
-      (ap (λ (j : Typed). j.answer) a.0, a.1 ∙ ap (padded types) J_written)
+      (told_ok r a.0, a.1 ∙ ap (padded types) J_written)
 
-  pub refuses_J : 27 ≤ types → types < 30 → 40 ≤ query → TypeJob J types query r u w → (r.answer ≡ Refused 16 9) × (u ≡ zeros types) × (w ≡ zeros query)
-  refuses_J l k m p = refused_leaves p (J_refused types query l k m)
+  pub refuses_J : 27 ≤ types → types < 30 → 40 ≤ query → TypeJob J types query r u w → (r ≡ Err (record { reason = Reason.TypesFull; place = 9 })) × (u ≡ zeros types) × (w ≡ zeros query)
+  refuses_J l k m p = refused_leaves p (record { reason = Reason.TypesFull; place = 9 }) (J_refused types query l k m)
 
   -- A LONGER JOB is typed as its first 43,520 bytes are
   pub prefix : (n : ℕ) → 43520 ≤ n → (s : List ℕ) → TypeJob (take n s) types query r u w → TypeJob s types query r u w
@@ -165,15 +169,16 @@ module _ {types query : ℕ} {r : Typed} {u w : List ℕ} where
       record { answer = p.answer ∙ ap typed_of e; types_left = p.types_left ∙ ap (typed_types types) e; query_left = p.query_left ∙ ap (typed_code query) e }
 
 -- NO ONE ANSWER is that of P10 and that of the query ()
-pub no_one_answer : {types query : ℕ} {r : Typed} {u w u₁ w₁ : List ℕ} → 6 ≤ types → 4 ≤ query → TypeJob P10 types query r u w → TypeJob nothing types query r u₁ w₁ → ⊥
+pub no_one_answer : {types query : ℕ} {r : Result Typed Refusal} {u w u₁ w₁ : List ℕ} → 6 ≤ types → 4 ≤ query → TypeJob P10 types query r u w → TypeJob nothing types query r u₁ w₁ → ⊥
 no_one_answer l m p q =
-    let e : Accepted 1 2 1 ≡ Accepted 0 2 1 = sym (types_P10 l m p).0 ∙ (types_nothing l m q).0 in
-    let z : ◌≡◌ {A = ℕ} 1 0 = cc in
-    omega arith
+    let e : ◌≡◌ {A = Result Typed Refusal} (Ok (record { result = 1; types = 2; nodes = 1; given = given_of P10_tables })) (Ok (record { result = 0; types = 2; nodes = 1; given = given_of nothing_typed.job }))
+    = sym (types_P10 l m p).0 ∙ (types_nothing l m q).0 in
+    let z : ◌≡◌ {A = Typed} (record { result = 1; types = 2; nodes = 1; given = given_of P10_tables }) (record { result = 0; types = 2; nodes = 1; given = given_of nothing_typed.job }) = cc in
+    omega (arith, ap (λ (t : Typed). t.result) z)
 
 -- and no one type
-pub no_one_type : {types query types₁ query₁ : ℕ} {r r₁ : Typed} {u w u₁ w₁ : List ℕ} → 6 ≤ types → 4 ≤ query → 6 ≤ types₁ → 4 ≤ query₁ → TypeJob P10 types query r u w → TypeJob nothing types₁ query₁ r₁ u₁ w₁
-    → (x : Entry) → named r.answer u ≡ some x → named r₁.answer u₁ ≡ some x → ⊥
+pub no_one_type : {types query types₁ query₁ : ℕ} {r r₁ : Result Typed Refusal} {u w u₁ w₁ : List ℕ} → 6 ≤ types → 4 ≤ query → 6 ≤ types₁ → 4 ≤ query₁ → TypeJob P10 types query r u w → TypeJob nothing types₁ query₁ r₁ u₁ w₁
+    → (x : Entry) → named r u ≡ some x → named r₁ u₁ ≡ some x → ⊥
 no_one_type l m l₁ m₁ p q x e f =
     let k : some Types.string ≡ some Types.empty = sym (types_P10 l m p).1 ∙ e ∙ sym f ∙ (types_nothing l₁ m₁ q).1 in
     let z : ◌≡◌ {A = ℕ} 0 1 = cc in

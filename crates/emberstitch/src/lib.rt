@@ -5,16 +5,17 @@
 ghost use Rattle.std.specs.Prelude.{◌≡◌, length};
 ghost use Rattle.emberstitch.specs.Promises.{ReadJob, TypeJob, AnswerJob, ReadAnswer, RunJob, ParseText, WriteText, Call, number_of, Small};
 
-use answered::{Answer, Answered};
+use answered::Answered;
 use back::Back;
 use jobs::Job;
-use parses::Parsed;
 use ran::Ran;
+use refusals::Refusal;
+use texts::Text;
 use typed::Typed;
 
 // Reads a job: the type table and the query table, the definitions and the declared variables; or a refusal, 1 to 12, with its place, and both tables
 // zero.
-pub fn read_job(job: &[u8], types: &mut [u16], query: &mut [u16]) -> Job
+pub fn read_job(job: &[u8], types: &mut [u16], query: &mut [u16]) -> Result<Job, Refusal>
     ensures { ReadJob job.now (length types.old) (length query.old) result types.new query.new }
 {
     jobs::read_job(job, types, query)
@@ -22,21 +23,26 @@ pub fn read_job(job: &[u8], types: &mut [u16], query: &mut [u16]) -> Job
 
 // Types a job: the type table as typing leaves it, with the result's entry, the query table, the definitions and the declared variables; or a refusal,
 // 1 to 16, with its place, and both tables zero.
-pub fn type_job(job: &[u8], types: &mut [u16], query: &mut [u16]) -> Typed
+pub fn type_job(job: &[u8], types: &mut [u16], query: &mut [u16]) -> Result<Typed, Refusal>
     ensures { TypeJob job.now (length types.old) (length query.old) result types.new query.new }
 {
     typed::type_job(job, types, query)
 }
 
 // Answers a job: types it, and writes its answer file into the buffer; or a refusal, 1 to 17, with its place, and every word and byte zero.
-pub fn answer_job(job: &[u8], types: &mut [u16], query: &mut [u16], answer: &mut [u8]) -> Answered
+pub fn answer_job(
+    job: &[u8],
+    types: &mut [u16],
+    query: &mut [u16],
+    answer: &mut [u8],
+) -> Result<Answered, Refusal>
     ensures { AnswerJob job.now (length types.old) (length query.old) (length answer.old) result types.new query.new answer.new }
 {
     answered::answer_job(job, types, query, answer)
 }
 
 // Reads an answer file back: the type table, the definitions and the result; or a refusal, 1 to 6 or 8 to 10, with its place, and the table zero.
-pub fn read_answer(file: &[u8], types: &mut [u16]) -> Back
+pub fn read_answer(file: &[u8], types: &mut [u16]) -> Result<Back, Refusal>
     ensures { ReadAnswer file.now (length types.old) result types.new }
 {
     back::read_answer(file, types)
@@ -50,14 +56,14 @@ pub fn run_job(
     types: &mut [u16],
     query: &mut [u16],
     work: &mut [u16],
-) -> Ran
+) -> Result<Ran, Refusal>
     ensures { RunJob job.now values.now (length types.old) (length query.old) (length work.old) result types.new query.new work.new }
 {
     ran::run_job(job, values, types, query, work)
 }
 
 // Parses a text into the query section of a job; or a refusal, 22, 6, 23, 5 or 30, with its place, and every byte zero.
-pub fn parse_text(text: &[u8], section: &mut [u8]) -> Parsed
+pub fn parse_text(text: &[u8], section: &mut [u8]) -> Result<usize, Refusal>
     ensures { ParseText text.now (length section.old) result section.new }
 {
     parses::parse_text(text, section)
@@ -70,25 +76,20 @@ pub fn write_text(
     types: &mut [u16],
     query: &mut [u16],
     text: &mut [u8],
-) -> texts::Answer
+) -> Result<Text, Refusal>
     ensures { WriteText job.now (length types.old) (length query.old) (length text.old) result types.new query.new text.new }
 {
     texts::write_text(job, types, query, text)
 }
 
 // The number of an answer: its length, or 2^32 times the refusal plus the place.
-fn number_of(told: Answer) -> u64
+fn number_of(told: Result<Answered, Refusal>) -> u64
     requires { Small told }
     ensures { result ≡ number_of told }
 {
     match told {
-        Answer::Accepted {
-            length,
-            result: _,
-            types: _,
-            nodes: _,
-        } => length as u64,
-        Answer::Refused { number, place } => 4294967296 * (number as u64) + place as u64,
+        Ok(answered) => answered.length as u64,
+        Err(refusal) => 4294967296 * u64::from(refusal.reason.number()) + refusal.place as u64,
     }
 }
 
@@ -99,7 +100,5 @@ pub fn emberstitch_answer(job: &[u8], answer: &mut [u8]) -> u64
 {
     let mut types = [0u16; 12288];
     let mut query = [0u16; 4096];
-    let answered = answer_job(job, &mut types, &mut query, answer);
-    let told = answered.answer;
-    number_of(told)
+    number_of(answer_job(job, &mut types, &mut query, answer))
 }

@@ -1,13 +1,13 @@
--- A name that `read` reads; that what stands in an entry stands in the table; and the entries that may be appended.
+-- That what stands in an entry stands in the table; and the entries that may be appended.
 -- Assumes nothing.
 use mathlib.Core.Path.{◌≡◌, refl, ap, sym, ◌∙◌}
 use mathlib.Core.Bool.{Bool, true}
-use mathlib.Core.List.{List}
+use mathlib.Core.List.{List, [], ◌∷◌}
 use Prim.Native.Nat.{ℕ, ◌<◌, ◌≤◌}
 use lib.ListN.{length, get_or}
 use Rattle.meaning.specs.Base.{At, In, first, zeros}
 use Rattle.meaning.specs.Types as Types
-use Rattle.meaning.specs.Types.{Entry, Table, Defs, kind_of, fields_of, entry_of, name_of, at}
+use Rattle.meaning.specs.Types.{Entry, Table, Defs, kind_of, fields_of, entry_words, entry_of, name_of, at}
 use Rattle.meaning.specs.Reach.{steps_of}
 use Rattle.meaning.specs.Formed as Formed
 use Rattle.meaning.specs.Formed.{Formed}
@@ -15,12 +15,7 @@ use Rattle.meaning.proofs.Lists.{at_low, at_get_or}
 use Rattle.meaning.proofs.Guard.{steps_low, name_at}
 use Rattle.words.specs.declared.Entry as Words
 use Rattle.words.proofs.Tables.{entry_made}
-use Rattle.words.proofs.Entries.{kind_name}
-use Rattle.grow.specs.Grow.{Shows, New}
-
--- A NAME that was read
-pub shows_name : {T : Table} {e : ℕ} {w : Words.Entry} → Shows T e w → w.kind ≡ 9 → At T e (Types.name w.a)
-shows_name {w = w} h p = rw (kind_name w.a w.b p) at h.is
+use Rattle.grow.specs.Grow.{New}
 
 -- WHAT STANDS IN AN ENTRY
 module _ {D : Defs} {T : Table} (F : Formed D T) {e : ℕ} where
@@ -60,6 +55,10 @@ module _ {n : ℕ} where
   pub new_opt : {a : ℕ} → a < n → New n 8 a 0 (Types.opt a)
   unfolding kind_of fields_of zeros name_of
   new_opt h = record { words = refl; low = Formed.opt h; plain = refl }
+
+-- and by words that are its own
+pub new_by : {n k a b : ℕ} {w : Words.Entry} {x : Entry} → w.kind ∷ w.a ∷ w.b ∷ [] ≡ entry_words x → New n k a b x → New n w.kind w.a w.b x
+new_by p new = record { words = sym p; low = new.low; plain = new.plain }
 
 -- its words make it
 pub new_is : {n k a b : ℕ} {x : Entry} → New n k a b x → entry_of k a b ≡ x

@@ -9,6 +9,8 @@ use native.Mathlib.Decide.{ℕ_discrete}
 use borrow.Author.Tests.{lt-ltb, le-ltb}
 use lib.ListN.{length, set, length-set, length-append}
 use lib.Seq.{get_or-set_same, get_or-set_other}
+use Rattle.std.specs.Prelude as Std
+use Rattle.refusals.specs.declared.Reason.{Reason}
 use Rattle.meaning.specs.Base.{ok, refused, type_width, type_capacity}
 use Rattle.meaning.specs.Types.{Entry, Table, Defs, entry_of, name_of}
 use Rattle.meaning.specs.Formed.{Lower, Formed}
@@ -21,7 +23,6 @@ use Rattle.words.specs.Tables.{stored, table_of}
 use Rattle.words.proofs.Tables.{table_length}
 use Rattle.classes.specs.Classes.{code_of, Right, Filled}
 use Rattle.grow.specs.Grow.{Ready, Left, New}
-use Rattle.grow.specs.declared.Made.TheVariants as Made
 use Rattle.grow.proofs.Entries.{new_is}
 use Rattle.grow.proofs.Tables.{more_long, more_table, more_lent}
 
@@ -52,7 +53,7 @@ module _ (D : Defs) (ws cs : List ℕ) (n node k a b : ℕ) (x : Entry) (new : N
         let i : e < length T = omega (arith, length-append T (x ∷ []), table_length ws n) in
         get_or-set_other cs n e c 0 p ∙ rw (shape_grows R.formed (grows_one T x) i) (R.filled.right e i)
 
-    pub grown_left : Left D ws (stored ws (type_width * n) (k ∷ a ∷ b ∷ [])) cs (set cs n c) (Made.Entry n (n + 1)) (append (type_capacity (length ws)) node x T)
+    pub grown_left : Left D ws (stored ws (type_width * n) (k ∷ a ∷ b ∷ [])) cs (set cs n c) (Std.Ok (record { at = n; count = n + 1 })) (append (type_capacity (length ws)) node x T)
     grown_left =
         let L = R.lent in
         let w = new.words in
@@ -72,5 +73,5 @@ module _ (D : Defs) (ws cs : List ℕ) (n node k a b : ℕ) (x : Entry) (new : N
           );
         }
 
-  pub full_left : type_capacity (length ws) ≤ n → Left D ws ws cs cs (Made.Refused 16 node) (append (type_capacity (length ws)) node x T)
+  pub full_left : type_capacity (length ws) ≤ n → Left D ws ws cs cs (Std.Err (record { reason = Reason.TypesFull; place = node })) (append (type_capacity (length ws)) node x T)
   full_left h = record { answer = sym (append_full (type_capacity (length ws)) node x T (rw table_length h)); long = refl; longs = refl; ready = tt }

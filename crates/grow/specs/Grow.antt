@@ -1,18 +1,15 @@
 -- A lent type table that typing grows, with the class of every entry; and a rule's answer in the code, read as an answer of `meaning`.
 -- Assumes nothing.
-use Rattle.std.specs.Prelude.{◌≡◌, List, [], ◌∷◌, ℕ, ◌<◌, ◌≤◌, length}
+use Rattle.std.specs.Prelude.{◌≡◌, Result, Ok, Err, List, [], ◌∷◌, ℕ, ◌<◌, ◌≤◌, length}
 use Rattle.std.proofs.Math.Option.{none}
-use Rattle.meaning.specs.Base.{At, Out, ok, refused, padded, type_capacity}
-use Rattle.meaning.specs.Types.{Entry, Table, Defs, entry_words, table_words, entry_of, name_of}
+use Rattle.meaning.specs.Base.{Out, padded, type_capacity}
+use Rattle.meaning.specs.Types.{Entry, Table, Defs, entry_words, table_words, name_of}
 use Rattle.meaning.specs.Formed.{Lower, Formed}
+use Rattle.refusals.specs.declared.Refusal.{Refusal}
+use Rattle.refusals.specs.Says.{out}
 use Rattle.words.specs.Tables.{table_of}
-use Rattle.words.specs.declared.Entry as Words
 use Rattle.classes.specs.Classes.{Filled}
 use Rattle.grow.specs.declared.Made.{Made}
-
--- the words w are those of entry e
-pub record Shows (T : Table) (e : ℕ) (w : Words.Entry) : Type 0 where
-  pub is : At T e (entry_of w.kind w.a w.b)
 
 -- lent words: n entries, which they have room for, and then zeros
 pub record Lent (ws : List ℕ) (n : ℕ) : Type 0 where
@@ -27,18 +24,17 @@ pub record Ready (D : Defs) (ws cs : List ℕ) (n : ℕ) : Type 0 where
   pub long : 4096 ≤ length cs
 
 -- the code's answer, with the words that it left
-abbrev pub answer_of : Made → List ℕ → Out (Table × ℕ)
-answer_of (Made.Entry e n) us = ok (table_of us n, e)
-answer_of (Made.Refused k place) us = refused k place
+abbrev pub answer_of : Result Made Refusal → List ℕ → Out (Table × ℕ)
+answer_of r us = out (λ m. (table_of us m.count, m.at)) r
 
 -- what the next rule is given, and that the answer is an entry of the table
-abbrev pub After : Defs → List ℕ → List ℕ → Made → Type 0
-After D us ds (Made.Entry e n) = Ready D us ds n × (e < n)
-After D us ds (Made.Refused k place) = Unit {0}
+abbrev pub After : Defs → List ℕ → List ℕ → Result Made Refusal → Type 0
+After D us ds (Ok m) = Ready D us ds m.count × (m.at < m.count)
+After D us ds (Err r) = Unit {0}
 
 -- From words ws and classes cs the code left us and ds and answered r, as x says, the answer of a rule of `meaning`. A refusal leaves what it leaves:
 -- typing clears it.
-pub record Left (D : Defs) (ws us cs ds : List ℕ) (r : Made) (x : Out (Table × ℕ)) : Type 0 where
+pub record Left (D : Defs) (ws us cs ds : List ℕ) (r : Result Made Refusal) (x : Out (Table × ℕ)) : Type 0 where
   pub answer : answer_of r us ≡ x
   pub long : length us ≡ length ws
   pub longs : length ds ≡ length cs

@@ -3,11 +3,10 @@
 use mathlib.Core.Path.{◌≡◌, refl, ap, sym, ◌∙◌}
 use mathlib.Core.Logic.{◌⊎◌, inl, inr}
 use mathlib.Core.Bool.{Bool, true, false, ◌||◌, false≢true}
-use Prim.Native.Nat.{ℕ, zero, suc, ◌*◌, ◌/◌, ◌%◌, ◌^◌, ◌<◌}
+use Prim.Native.Nat.{ℕ, zero, suc, ◌/◌, ◌%◌, ◌^◌}
 use native.Mathlib.Omega.{arith}
 use native.Mathlib.Decide.{ℕ_discrete}
-use native.Mathlib.Nat.{pow-succ', div-div-eq-div-mul, mod-eq_of_lt}
-use lib.Pow.{pow-lt}
+use native.Mathlib.Nat.{pow-succ', div-div-eq-div-mul}
 use lib.Dec.{eqb}
 use lib.Bits.{bit_or, or_step}
 use borrow.Author.Tests.{eq-eqb, ne_eqb, eqb-true}
@@ -72,7 +71,3 @@ pub bit_shift : (set d : ℕ) → bit set d ≡ eqb (set / 2 ^ d % 2) 1
 unfolding bit
 bit_shift set zero = ap (λ (n : ℕ). eqb (n % 2) 1) {x = set} {y = set / 1} (omega arith)
 bit_shift set (suc d) = bit_shift (set / 2) d ∙ ap (λ (n : ℕ). eqb (n % 2) 1) (div-div-eq-div-mul set 2 (2 ^ d) ∙ ap (λ (n : ℕ). set / n) (sym (pow-succ' 2 d)))
-
--- 1 shifted left by less than 64
-pub one_shifted : (a : ℕ) → a < 64 → 1 * 2 ^ a % 2 ^ 64 ≡ 2 ^ a
-one_shifted a h = ap (λ (n : ℕ). n % 2 ^ 64) {x = 1 * 2 ^ a} {y = 2 ^ a} (omega arith) ∙ mod-eq_of_lt (pow-lt {i = a} {j = 64} h)

@@ -19,10 +19,6 @@ pub merged_both : (s o k : ℕ) → bit s k ≡ true → bit_or s o ≡ merged s
 unfolding merged
 merged_both s o k h = sym (rw (merged, h))
 
-pub merged_one : (s o k : ℕ) → bit s k ≡ false → s ≡ merged s o k
-unfolding merged
-merged_one s o k h = sym (rw (merged, h))
-
 module _ (s o k j : ℕ) where
   merged_old : bit s j ≡ true → bit (merged s o k) j ≡ true
   unfolding merged
@@ -53,9 +49,6 @@ pub record Joining (used k : ℕ) (before now : List ℕ) (d : ℕ) : Type 0 whe
   pub long : length now ≡ length before
   pub done : (i : ℕ) → i < d → get_or now i 0 ≡ merged (get_or before i 0) (get_or before k 0) k
   pub left : (i : ℕ) → d ≤ i → get_or now i 0 ≡ get_or before i 0
-
-pub joining_none : (used k : ℕ) (before : List ℕ) → Joining used k before before 0
-joining_none used k before = record { to = omega arith; long = refl; done = λ i h. absurd (omega arith); left = λ i h. refl }
 
 module _ {used k d : ℕ} {before now : List ℕ} (f : Joining used k before now d) where
   pub joining_more : {v : ℕ} → used ≤ length before → d < used → v ≡ merged (get_or now d 0) (get_or before k 0) k → Joining used k before (set now d v) (d + 1)
@@ -128,6 +121,10 @@ module _ {used k : ℕ} {before now after : List ℕ} (c : Closing used before n
       go : (i j : ℕ) → i < used → (R i j ≡ true) ⊎ ((R i k ≡ true) × (R k j ≡ true)) → Way used before i j
       go i j l (inl b) = c.ways i j l b
       go i j l (inr b) = Sets.on h (c.ways i k l b.0) (c.ways k j h b.1)
+
+-- the same where as many sets as there are are closed
+pub closing_next : {k : ℕ} {before now after : List ℕ} → Closing (length before) before now k → k < length before → Joined (length now) k now after → length after ≡ length now → Closing (length before) before after (k + 1)
+closing_next {k} {before} {now} {after} c h joins e = closing_more c h (subst (λ (n : ℕ). Joined n k now after) c.long joins) e
 
 pub closing_all : {used k : ℕ} {before now : List ℕ} → Closing used before now k → used ≤ k → Closed used before now
 closing_all {used} {k} {before} {now} c h = record { closed = λ i j l. (c.ways i j l, back i j l) }

@@ -62,9 +62,6 @@ pub record Filling (T : Table) (count : ℕ) (before masks : List ℕ) (e : ℕ)
   pub long : length masks ≡ length before
   pub done : (i : ℕ) → i < e → get_or masks i 0 ≡ set_of masks (at T i)
 
-pub filling_none : (T : Table) (count : ℕ) (before : List ℕ) → Filling T count before before 0
-filling_none T count before = record { to = omega arith; long = refl; done = λ i h. absurd (omega arith) }
-
 module _ {T : Table} {count : ℕ} {before masks : List ℕ} {e : ℕ} (many : length T ≡ count) (laid : Laid T) (f : Filling T count before masks e) where
   -- the next entry is one of entries that have their sets
   pub filling_low : {x : Entry} → count ≤ length before → e < count → at T e ≡ x → Low (length masks) x

@@ -1,6 +1,5 @@
 -- Laws of the sets of definitions, and that they say which definition reaches itself. Read in this order.
 pub mod Bits
-pub mod Entries
 pub mod Owning
 pub mod Filling
 pub mod Beginning

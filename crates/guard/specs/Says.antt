@@ -1,22 +1,18 @@
--- What the check of types and definitions answers, in document 01's numbers; and what it is given.
+-- What the check of types and definitions answers; and what it is given.
 -- Assumes nothing.
-use Rattle.std.specs.Prelude.{List, ℕ, ◌*◌, ◌≤◌, length, take}
-use Rattle.meaning.specs.Base.{Out, ok, refused, type_width}
+use Rattle.std.specs.Prelude.{Result, ℕ, length}
+use Rattle.meaning.specs.Base.{Out}
+use Rattle.meaning.specs.Types.{Table, Defs}
 use Rattle.meaning.specs.Formed.{TypesRead, DefsRead}
-use Rattle.words.specs.Tables.{table_of}
-use Rattle.guard.specs.declared.Checked.{Checked}
-use Rattle.guard.specs.declared.Checked.TheVariants.{Sound, Undefined, Circle}
+use Rattle.refusals.specs.declared.Refusal.{Refusal}
+use Rattle.refusals.specs.Says.{out}
 
--- 9 at the entry, 10 at the definition
-abbrev pub outcome : Checked → Out (Unit {0})
-outcome Sound = ok tt
-outcome (Undefined e) = refused 9 e
-outcome (Circle d) = refused 10 d
+-- what the check answers
+abbrev pub outcome : Result (Unit {0}) Refusal → Out (Unit {0})
+outcome r = out (λ x. x) r
 
--- a lent table of types and one of definitions, as reading leaves them
-pub record Given (types : List ℕ) (count : ℕ) (defs : List ℕ) (used : ℕ) : Type 0 where
+-- types and definitions, as reading leaves them
+pub record Given (types : Table) (defs : Defs) : Type 0 where
   pub room : ℕ
-  pub inside : type_width * count ≤ length types
-  pub listed : used ≤ length defs
-  pub types_read : TypesRead room (table_of types count)
-  pub defs_read : DefsRead count (take used defs)
+  pub types_read : TypesRead room types
+  pub defs_read : DefsRead (length types) defs

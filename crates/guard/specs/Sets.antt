@@ -33,6 +33,18 @@ pub data Low (n : ℕ) : Entry → Type 0 where
   string : Low n Types.string
   lower : {x : Entry} → Lower n x → Low n x
 
+-- where what stands in an entry has a place among n sets, and a name's definition a place in a set
+abbrev pub Inside : ℕ → Entry → Type 0
+Inside n (Types.pair a b) = (a < n) × (b < n)
+Inside n (Types.union a b) = (a < n) × (b < n)
+Inside n (Types.star a) = a < n
+Inside n (Types.plus a) = a < n
+Inside n (Types.opt a) = a < n
+Inside n (Types.name d) = d < 64
+Inside n Types.empty = Unit {0}
+Inside n Types.string = Unit {0}
+Inside n (Types.element l c) = Unit {0}
+
 -- a table of such entries
 pub record Laid (T : Table) : Type 0 where
   pub low : (e : ℕ) → e < length T → Low e (at T e)

@@ -2,43 +2,42 @@
 // without entering an element.
 #![tactic(auto)]
 
-ghost use Rattle.std.specs.Prelude.{◌≡◌, ◌*◌, ◌≤◌, ◌<◌, length, take};
-ghost use Rattle.meaning.specs.Base.{lowest, type_width};
-ghost use Rattle.meaning.specs.Types.{Defs, entry_of, name_of};
+ghost use Rattle.std.specs.Prelude.{◌≡◌, ◌≤◌, ◌<◌, length};
+ghost use Rattle.meaning.specs.Base.{lowest};
+ghost use Rattle.meaning.specs.Types.{name_of};
 ghost use Rattle.meaning.specs.Reach.{loops};
 ghost use Rattle.meaning.specs.Formed.{DefsRead};
 ghost use Rattle.meaning.specs.Checks.{is_undefined, undefined_name, check_types};
-ghost use Rattle.words.specs.Tables.{table_of};
 ghost use Rattle.words.specs.Says.{found};
+ghost use Rattle.entries.specs.Says.{shown};
 ghost use Rattle.guard.specs.Says.{outcome, Given};
-ghost use Rattle.guard.specs.Sets.{bit, bit_at, set_of, merged, Low, Laid, Filled, Begun, Joined, Closed};
+ghost use Rattle.guard.specs.Sets.{bit, bit_at, Inside, set_of, merged, Laid, Filled, Begun, Joined, Closed};
 
-use words::Found;
+use entries::Ty;
+use refusals::{Reason, Refusal};
+use tables::Types;
 
 // Is the entry a name that has no definition.
-fn is_undefined(kind: u16, a: u16, b: u16, used: usize) -> bool
-    ensures { (D : Defs) → length D ≡ used → result ≡ is_undefined D (name_of (entry_of kind a b)) }
+#[tactic(auto, unfolding(meaning::specs::Types::name_of))]
+fn is_undefined(x: Ty, defs: &[u16]) -> bool
+    ensures { result ≡ is_undefined defs.now (name_of (shown x)) }
 {
-    if kind != 9 {
-        return false;
+    match x {
+        Ty::Name(d) => defs.len() <= usize::from(d),
+        _ => false,
     }
-    used <= a as usize
 }
 
 // 9: the lowest name without definition.
-fn undefined_name(types: &[u16], count: usize, used: usize) -> Found
-    requires { type_width * count ≤ length types.now }
-    ensures { (D : Defs) → length D ≡ used → found result ≡ lowest (undefined_name D (table_of types.now count)) count }
+fn undefined_name(types: &Types, defs: &[u16]) -> Option<usize>
+    ensures { found result ≡ lowest (undefined_name defs.now types.now) (length types.now) }
 {
-    let mut i = 0;
-    while i < count {
-        let x = words::read_entry(types, i);
-        if is_undefined(x.kind, x.a, x.b, used) {
-            return Found::At(i);
+    for i in 0..types.len() {
+        if is_undefined(types.get(i), defs) {
+            return Some(i);
         }
-        i += 1;
     }
-    Found::Nowhere
+    None
 }
 
 // Is the definition in the set.
@@ -50,6 +49,7 @@ fn has(set: u64, d: u64) -> bool
 }
 
 // The set, with another if it has definition k.
+#[tactic(auto, unfolding(crate::specs::Sets::merged))]
 fn joined(set: u64, other: u64, k: u64) -> u64
     requires { k < 64 }
     ensures { result ≡ merged set other k }
@@ -60,177 +60,133 @@ fn joined(set: u64, other: u64, k: u64) -> u64
     set
 }
 
-// What an entry names without entering an element or a definition, from what the lower entries name: a name (9) its definition; star, plus and opt
-// (6, 7, 8) what their child names; a pair or union (4, 5) what its two children name.
-fn own_set(kind: u16, a: u16, b: u16, masks: &[u64]) -> u64
-    requires { Low (length masks.now) (entry_of kind a b) }
-    ensures { result ≡ set_of masks.now (entry_of kind a b) }
+// What an entry names without entering an element or a definition, from what the lower entries name: a name its definition; the others what stands
+// in them names.
+#[tactic(auto, unfolding(crate::specs::Sets::set_of))]
+fn own_set(x: Ty, masks: &[u64]) -> u64
+    requires { Inside (length masks.now) (shown x) }
+    ensures { result ≡ set_of masks.now (shown x) }
 {
-    if kind == 9 {
-        return 1 << (a as u64);
+    match x {
+        Ty::Pair(a, b) | Ty::Union(a, b) => masks[usize::from(a)] | masks[usize::from(b)],
+        Ty::Star(a) | Ty::Plus(a) | Ty::Opt(a) => masks[usize::from(a)],
+        Ty::Name(d) => 1 << d,
+        _ => 0,
     }
-    let is_above = 8 < kind;
-    if is_above {
-        return 0;
-    }
-    if 5 < kind {
-        return masks[a as usize];
-    }
-    if 3 < kind {
-        return masks[a as usize] | masks[b as usize];
-    }
-    0
 }
 
 // The sets of all entries, from the lowest up: what stands in an entry is lower.
-fn fill_masks(types: &[u16], count: usize, masks: &mut [u64])
-    requires fact_1 { type_width * count ≤ length types.now }
-    requires fact_2 { Laid (table_of types.now count) }
-    requires fact_3 { count ≤ length masks.old }
-    ensures { Filled (table_of types.now count) masks.new }
+fn fill_masks(types: &Types, masks: &mut [u64])
+    requires laid { Laid types.now }
+    requires room { length types.now ≤ length masks.old }
+    ensures { Filled types.now masks.new }
 {
-    let mut e = 0;
-    while e < count {
-        let x = words::read_entry(types, e);
-        masks[e] = own_set(x.kind, x.a, x.b, masks);
-        e += 1;
+    for e in 0..types.len() {
+        masks[e] = own_set(types.get(e), masks);
     }
 }
 
 // The set of each definition's entry.
-fn fill_reach(defs: &[u16], used: usize, masks: &[u64], reach: &mut [u64])
-    requires fact_1 { used ≤ length defs.now }
-    requires fact_2 { used ≤ length reach.old }
-    requires fact_3 { DefsRead (length masks.now) (take used defs.now) }
-    ensures { Begun (take used defs.now) masks.now reach.new }
+fn fill_reach(defs: &[u16], masks: &[u64], reach: &mut [u64])
+    requires room { length defs.now ≤ length reach.old }
+    requires read { DefsRead (length masks.now) defs.now }
+    ensures { Begun defs.now masks.now reach.new }
 {
-    let mut d = 0;
-    while d < used {
-        reach[d] = masks[words::wide(defs[d])];
-        d += 1;
+    for (d, entry) in defs.iter().enumerate() {
+        reach[d] = masks[usize::from(*entry)];
     }
 }
 
 // The set of definition k joined to each set that has it.
-fn join_through(used: usize, reach: &mut [u64], k: usize)
-    requires fact_1 { used ≤ length reach.old }
-    requires fact_2 { used ≤ 64 }
-    requires fact_3 { k < used }
-    ensures { Joined used k reach.old reach.new }
+fn join_through(reach: &mut [u64], k: usize)
+    requires few { length reach.old ≤ 64 }
+    requires inside { k < length reach.old }
+    ensures { Joined (length reach.old) k reach.old reach.new }
 {
     let other = reach[k];
-    let mut d = 0;
-    while d < used {
-        reach[d] = joined(reach[d], other, k as u64);
-        d += 1;
+    for set in reach.iter_mut() {
+        *set = joined(*set, other, k as u64);
     }
 }
 
 // The sets of all definitions closed, through one definition after the other.
-fn close_reach(used: usize, reach: &mut [u64])
-    requires fact_1 { used ≤ length reach.old }
-    requires fact_2 { used ≤ 64 }
-    ensures { Closed used reach.old reach.new }
+fn close_reach(reach: &mut [u64])
+    requires few { length reach.old ≤ 64 }
+    ensures { Closed (length reach.old) reach.old reach.new }
 {
-    let mut k = 0;
-    while k < used {
-        join_through(used, reach, k);
-        k += 1;
+    for k in 0..reach.len() {
+        join_through(reach, k);
     }
 }
 
 // The lowest definition that is in its own set.
-fn lowest_circle(used: usize, reach: &[u64]) -> Found
-    requires fact_1 { used ≤ length reach.now }
-    requires fact_2 { used ≤ 64 }
-    ensures { found result ≡ lowest (λ d. bit_at reach.now d d) used }
+fn lowest_circle(reach: &[u64]) -> Option<usize>
+    requires few { length reach.now ≤ 64 }
+    ensures { found result ≡ lowest (λ d. bit_at reach.now d d) (length reach.now) }
 {
-    let mut d = 0;
-    while d < used {
-        if has(reach[d], d as u64) {
-            return Found::At(d);
+    for (d, set) in reach.iter().enumerate() {
+        if has(*set, d as u64) {
+            return Some(d);
         }
-        d += 1;
     }
-    Found::Nowhere
+    None
 }
 
-// 10: the lowest definition that reaches itself without entering an element, in at most count + used * used steps. `masks` has room for a set of each
-// entry and `reach` for one of each definition.
-fn circle(
-    types: &[u16],
-    count: usize,
-    defs: &[u16],
-    used: usize,
-    masks: &mut [u64],
-    reach: &mut [u64],
-) -> Found
-    requires fact_1 { Given types.now count defs.now used }
-    requires fact_2 { count ≤ length masks.old }
-    requires fact_3 { used ≤ length reach.old }
-    ensures { found result ≡ lowest (loops (take used defs.now) (table_of types.now count)) used }
+// 10: the lowest definition that reaches itself without entering an element, in at most as many steps as there are entries and the square of the
+// definitions. `masks` has room for a set of each entry, `reach` one of each definition.
+fn circle(types: &Types, defs: &[u16], masks: &mut [u64], reach: &mut [u64]) -> Option<usize>
+    requires given { Given types.now defs.now }
+    requires masks { length types.now ≤ length masks.old }
+    requires reach { length reach.old ≡ length defs.now }
+    ensures { found result ≡ lowest (loops defs.now types.now) (length defs.now) }
 {
-    fill_masks(types, count, masks);
-    fill_reach(defs, used, masks, reach);
-    close_reach(used, reach);
-    lowest_circle(used, reach)
+    fill_masks(types, masks);
+    fill_reach(defs, masks, reach);
+    close_reach(reach);
+    lowest_circle(reach)
 }
 
-// The same with arrays for 256 entries, and for 4,096: clearing them is most of what a small table costs.
-fn circle_of_few(types: &[u16], count: usize, defs: &[u16], used: usize) -> Found
-    requires fact_1 { Given types.now count defs.now used }
-    requires fact_2 { count ≤ 256 }
-    ensures { found result ≡ lowest (loops (take used defs.now) (table_of types.now count)) used }
+// The same with arrays for so many entries: clearing them is most of what a small table costs.
+fn circle_of<const N: usize>(types: &Types, defs: &[u16]) -> Option<usize>
+    requires given { Given types.now defs.now }
+    requires few { length types.now ≤ N }
+    requires most { N ≤ 4096 }
+    ensures { found result ≡ lowest (loops defs.now types.now) (length defs.now) }
 {
-    let mut masks = [0u64; 256];
+    let mut masks = [0u64; N];
     let mut reach = [0u64; 64];
-    circle(types, count, defs, used, &mut masks, &mut reach)
-}
-
-fn circle_of_many(types: &[u16], count: usize, defs: &[u16], used: usize) -> Found
-    requires fact_1 { Given types.now count defs.now used }
-    requires fact_2 { count ≤ 4096 }
-    ensures { found result ≡ lowest (loops (take used defs.now) (table_of types.now count)) used }
-{
-    let mut masks = [0u64; 4096];
-    let mut reach = [0u64; 64];
-    circle(types, count, defs, used, &mut masks, &mut reach)
+    circle(types, defs, &mut masks, &mut reach[..defs.len()])
 }
 
 // The same, with the arrays that the table needs. Without definitions there is no circle.
-fn any_circle(types: &[u16], count: usize, defs: &[u16], used: usize) -> Found
-    requires fact_1 { Given types.now count defs.now used }
-    requires fact_2 { count ≤ 4096 }
-    ensures { found result ≡ lowest (loops (take used defs.now) (table_of types.now count)) used }
+fn any_circle(types: &Types, defs: &[u16]) -> Option<usize>
+    requires given { Given types.now defs.now }
+    requires few { length types.now ≤ 4096 }
+    ensures { found result ≡ lowest (loops defs.now types.now) (length defs.now) }
 {
-    if used == 0 {
-        return Found::Nowhere;
+    if defs.is_empty() {
+        return None;
     }
+    let count = types.len();
     if count <= 256 {
-        return circle_of_few(types, count, defs, used);
+        return circle_of::<256>(types, defs);
     }
-    circle_of_many(types, count, defs, used)
-}
-
-// What the check of types and definitions answers: no refusal, 9 at an entry, or 10 at a definition.
-#[derive(Drop)]
-pub enum Checked {
-    Sound,
-    Undefined(usize),
-    Circle(usize),
+    circle_of::<4096>(types, defs)
 }
 
 // 9, then 10, of at most 4,096 entries.
-pub fn check_types(types: &[u16], count: usize, defs: &[u16], used: usize) -> Checked
-    requires fact_1 { Given types.now count defs.now used }
-    requires fact_2 { count ≤ 4096 }
-    ensures { outcome result ≡ check_types (take used defs.now) (table_of types.now count) }
+pub fn check_types(types: &Types, defs: &[u16]) -> Result<(), Refusal>
+    requires given { Given types.now defs.now }
+    requires few { length types.now ≤ 4096 }
+    ensures { outcome result ≡ check_types defs.now types.now }
 {
-    if let Found::At(e) = undefined_name(types, count, used) {
-        return Checked::Undefined(e);
+    if let Some(place) = undefined_name(types, defs) {
+        let reason = Reason::NoDefinition;
+        return Err(Refusal { reason, place });
     }
-    if let Found::At(d) = any_circle(types, count, defs, used) {
-        return Checked::Circle(d);
+    if let Some(place) = any_circle(types, defs) {
+        let reason = Reason::Circle;
+        return Err(Refusal { reason, place });
     }
-    Checked::Sound
+    Ok(())
 }

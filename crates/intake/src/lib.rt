@@ -15,26 +15,6 @@ pub struct Got {
     pub failed: Option<io::Error>,
 }
 
-// One read into a room from a place on. No bytes come at the input's end, where the room is full, and where it fails.
-fn read_on<R: Read>(input: &mut R, room: &mut [u8], at: usize) -> Got
-    requires { at ≤ length room.old }
-    ensures in_room { at + result.bytes ≤ length room.old }
-    ensures before { take at room.new ≡ take at room.old }
-    ensures read { Consumes (R.remaining input.old) (R.remaining input.new) (take result.bytes (drop at room.new)) }
-    ensures end { result.bytes ≡ 0 → at < length room.old → IsNone result.failed → IsAtEnd (R.remaining input.new) }
-{
-    match input.read(&mut room[at..]) {
-        Ok(bytes) => Got {
-            bytes,
-            failed: None,
-        },
-        Err(e) => Got {
-            bytes: 0,
-            failed: Some(e),
-        },
-    }
-}
-
 // Reads until the room is full, the input ends or a read fails.
 pub fn fill<R: Read>(input: &mut R, room: &mut [u8]) -> Got
     ensures prefix_len { IsPrefixLen result.bytes room.new }
@@ -43,13 +23,17 @@ pub fn fill<R: Read>(input: &mut R, room: &mut [u8]) -> Got
 {
     let mut at = 0;
     while at < room.len() {
-        let got = read_on(input, room, at);
-        let bytes = got.bytes;
+        let bytes = match input.read(&mut room[at..]) {
+            Ok(bytes) => bytes,
+            Err(e) => {
+                return Got {
+                    bytes: at,
+                    failed: Some(e),
+                };
+            }
+        };
         if bytes == 0 {
-            return Got {
-                bytes: at,
-                failed: got.failed,
-            };
+            break;
         }
         at += bytes;
     }

@@ -12,6 +12,11 @@ use Rattle.meaning.specs.Tokens.{token_at}
 use Rattle.meaning.specs.Texts.{Here, here, Read, opened, variable_at, cond_at, group_at, item_by, query_at}
 use Rattle.tokens.specs.declared.Placed.{Placed}
 use Rattle.tokens.specs.Says.{kind_of, Tells}
+use Rattle.std.specs.Prelude as Std
+use Rattle.refusals.specs.declared.Refusal.{Refusal}
+use Rattle.refusals.specs.declared.Reason.{Reason}
+use Rattle.steps.proofs.Expecting.{refusal}
+use Rattle.items.specs.declared.Binder.{Binder}
 use Rattle.items.specs.declared.Act.{Act}
 use Rattle.items.specs.Machine.{item_at, cont}
 use Rattle.items.specs.Says.{Acts, Does, opening, text_behind, variable_item, group_behind, element_at, sign_behind, bound_behind, body_behind, when_behind}
@@ -44,16 +49,16 @@ module _ (s : List ℕ) (at : ℕ) {t : Placed} (tells : Tells (token_at s at) t
 
   module _ (k deep : ℕ) (h : Here) (p : h.at ≡ at) where
     for_rest : Here → Read Query
-    for_rest i = variable_at s i >>= λ v. sign_behind 5 s v.0 deep k v.1
+    for_rest i = variable_at s i >>= λ v. sign_behind Binder.For s v.0 deep k v.1
 
-    item_for_lem : kind ≡ 3 → item_at s (suc k) deep h ≡ bound_behind 5 s t.place deep k (here t.next h.nodes)
+    item_for_lem : kind ≡ 3 → item_at s (suc k) deep h ≡ bound_behind Binder.For s t.place deep k (here t.next h.nodes)
     unfolding item_by find cont for_rest
     item_for_lem e = at_here (item_at s (suc k) deep) p ∙ rw (seen e) (behind deep h.nodes for_rest)
 
     let_rest : Here → Read Query
-    let_rest i = variable_at s i >>= λ v. sign_behind 6 s v.0 deep k v.1
+    let_rest i = variable_at s i >>= λ v. sign_behind Binder.Let s v.0 deep k v.1
 
-    item_let : kind ≡ 6 → item_at s (suc k) deep h ≡ bound_behind 6 s t.place deep k (here t.next h.nodes)
+    item_let : kind ≡ 6 → item_at s (suc k) deep h ≡ bound_behind Binder.Let s t.place deep k (here t.next h.nodes)
     unfolding item_by find cont let_rest
     item_let e = at_here (item_at s (suc k) deep) p ∙ rw (seen e) (behind deep h.nodes let_rest)
 
@@ -89,7 +94,7 @@ module _ (s : List ℕ) (at : ℕ) {t : Placed} (tells : Tells (token_at s at) t
       ))
 
 -- WHAT IS DONE, by the first token
-module _ (s : List ℕ) (at : ℕ) {t : Placed} (tells : Tells (token_at s at) t) {kind : ℕ} (is : kind ≡ kind_of t.token) {deep nodes : ℕ} {code u : List ℕ} {r : Act} where
+module _ (s : List ℕ) (at : ℕ) {t : Placed} (tells : Tells (token_at s at) t) {kind : ℕ} (is : kind ≡ kind_of t.token) {deep nodes : ℕ} {code u : List ℕ} {r : Std.Result Act Refusal} where
   pub begins_element : kind ≡ 2 → Does 0 s at deep nodes code (λ k h. element_at s deep k h) r u → Does 0 s at deep nodes code (λ k h. item_at s k deep h) r u
   begins_element e d = does_same d (λ k h p. item_element s at tells is k deep h e p)
     where
@@ -103,11 +108,11 @@ module _ (s : List ℕ) (at : ℕ) {t : Placed} (tells : Tells (token_at s at) t
     pub begins_text : kind ≡ 20 → Does 0 s t.next deep nodes code (λ k h. text_behind s h) r u → Does 0 s at deep nodes code (λ k h. item_at s k deep h) r u
     begins_text e d = does_later (λ k h. item_at s k deep h) (λ k h. text_behind s h) d (omega (arith, (token_on s at tells is inside (omega (arith, e))).0)) (token_on s at tells is inside (omega (arith, e))).1 (λ k h p. item_text s at tells is k deep h e p)
 
-    pub begins_for : kind ≡ 3 → Does 0 s t.next deep nodes code (λ k h. bound_behind 5 s t.place deep k h) r u → Does 0 s at deep nodes code (λ k h. item_at s k deep h) r u
-    begins_for e d = does_deeper (λ k h. item_at s k deep h) (λ k h. bound_behind 5 s t.place deep k h) d (omega (arith, (token_on s at tells is inside (omega (arith, e))).0)) (token_on s at tells is inside (omega (arith, e))).0 (token_on s at tells is inside (omega (arith, e))).1 (λ k h p. item_for_lem s at tells is k deep h p e)
+    pub begins_for : kind ≡ 3 → Does 0 s t.next deep nodes code (λ k h. bound_behind Binder.For s t.place deep k h) r u → Does 0 s at deep nodes code (λ k h. item_at s k deep h) r u
+    begins_for e d = does_deeper (λ k h. item_at s k deep h) (λ k h. bound_behind Binder.For s t.place deep k h) d (omega (arith, (token_on s at tells is inside (omega (arith, e))).0)) (token_on s at tells is inside (omega (arith, e))).0 (token_on s at tells is inside (omega (arith, e))).1 (λ k h p. item_for_lem s at tells is k deep h p e)
 
-    pub begins_let : kind ≡ 6 → Does 0 s t.next deep nodes code (λ k h. bound_behind 6 s t.place deep k h) r u → Does 0 s at deep nodes code (λ k h. item_at s k deep h) r u
-    begins_let e d = does_deeper (λ k h. item_at s k deep h) (λ k h. bound_behind 6 s t.place deep k h) d (omega (arith, (token_on s at tells is inside (omega (arith, e))).0)) (token_on s at tells is inside (omega (arith, e))).0 (token_on s at tells is inside (omega (arith, e))).1 (λ k h p. item_let s at tells is k deep h p e)
+    pub begins_let : kind ≡ 6 → Does 0 s t.next deep nodes code (λ k h. bound_behind Binder.Let s t.place deep k h) r u → Does 0 s at deep nodes code (λ k h. item_at s k deep h) r u
+    begins_let e d = does_deeper (λ k h. item_at s k deep h) (λ k h. bound_behind Binder.Let s t.place deep k h) d (omega (arith, (token_on s at tells is inside (omega (arith, e))).0)) (token_on s at tells is inside (omega (arith, e))).0 (token_on s at tells is inside (omega (arith, e))).1 (λ k h p. item_let s at tells is k deep h p e)
 
     pub begins_when : kind ≡ 7 → Does 0 s t.next deep nodes code (λ k h. when_behind s t.place deep k h) r u → Does 0 s at deep nodes code (λ k h. item_at s k deep h) r u
     begins_when e d = does_deeper (λ k h. item_at s k deep h) (λ k h. when_behind s t.place deep k h) d (omega (arith, (token_on s at tells is inside (omega (arith, e))).0)) (token_on s at tells is inside (omega (arith, e))).0 (token_on s at tells is inside (omega (arith, e))).1 (λ k h p. item_when s at tells is k deep h p e)
@@ -116,5 +121,5 @@ module _ (s : List ℕ) (at : ℕ) {t : Placed} (tells : Tells (token_at s at) t
     begins_group e d = does_deeper (λ k h. item_at s k deep h) (λ k h. group_behind s t.place deep k h) d (omega (arith, (token_on s at tells is inside (omega (arith, e))).0)) (token_on s at tells is inside (omega (arith, e))).0 (token_on s at tells is inside (omega (arith, e))).1 (λ k h p. item_group s at tells is k deep h p e)
 
 pub begins_not : (s : List ℕ) (at : ℕ) {t : Placed} → Tells (token_at s at) t → {kind : ℕ} → kind ≡ kind_of t.token → {deep nodes : ℕ} {code : List ℕ} → (kind ≡ 15 → ⊥) → (kind ≡ 20 → ⊥) → (kind ≡ 2 → ⊥) → (kind ≡ 21 → ⊥) → (kind ≡ 3 → ⊥) → (kind ≡ 6 → ⊥) → (kind ≡ 7 → ⊥)
-    → Does 0 s at deep nodes code (λ k h. item_at s k deep h) (Act.Refused 22 t.place) code
+    → Does 0 s at deep nodes code (λ k h. item_at s k deep h) (Std.Err (refusal Reason.NoSuchText t.place)) code
 begins_not s at tells is {deep} a b c d e f g = refused_does (λ k h. item_at s k deep h) (λ k h p. item_not s at tells is k deep h a b c d e f g p)

@@ -10,6 +10,10 @@ use Rattle.meaning.specs.Records.{Node}
 use Rattle.meaning.specs.Queries.{Query}
 use Rattle.meaning.specs.Texts.{Here, here, Read, query_at, query_no, query_nodes}
 use Rattle.words.specs.Tables.{code_of}
+use Rattle.std.specs.Prelude as Std
+use Rattle.refusals.specs.declared.Refusal.{Refusal}
+use Rattle.refusals.specs.Says.{number_of}
+use Rattle.items.specs.declared.Open.{Open}
 use Rattle.items.specs.declared.Act.{Act}
 use Rattle.items.specs.Machine.{Frame, cont, held, rows_of, depth, pairs, Stands, flat, Deep, Shown, many}
 use Rattle.items.specs.Says as Says
@@ -21,26 +25,26 @@ row_is : {next nodes : ℕ} {code u : List ℕ} {x : Node} {r : Act} → Emitted
 row_is {nodes = nodes} e n count l = let z : nodes ≡ n = omega (arith, count) in rw z at (e.row (omega (arith, z)))
 
 pub emitted_acts : {s : List ℕ} {from next nodes : ℕ} {under : List Frame} {code u : List ℕ} {x : Node} {r : Act} → Emitted nodes x next code r u → (n : ℕ) → min n 1025 ≡ nodes → {o : Read Query} (q : Query) → o ≡ ok (q, here next (suc n)) → from ≤ next → next ≤ length s
-    → Well s next under n → query_no q ≡ n → (n < 1024 → code_of code n ++ (x ∷ []) ≡ rows_of under ++ query_nodes q) → Acts s from n under u o r
+    → Well s next under n → query_no q ≡ n → (n < 1024 → code_of code n ++ (x ∷ []) ≡ rows_of under ++ query_nodes q) → Acts s from n under u o (Std.Ok r)
 emitted_acts {s} {from} {next} {under = under} {u = u} e n count {o} q p a b w own rows =
-    subst (Acts s from n under u o) (sym e.answer)
+    subst (λ (a : Act). Acts s from n under u o (Std.Ok a)) (sym e.answer)
     (Says.makes q (here next (suc n)) p a (omega arith) (record { place = refl; inside = b; count = omega (arith, count) }) (well_later w (omega arith) (omega arith))
     (record { few = omega (arith, w.few); rows = λ l. (ap suc own, row_is e n count (omega (arith, l)) ∙ rows (omega (arith, l))) }))
 
 -- there were fewer nodes
-pub acts_fewer : {s : List ℕ} {at n m : ℕ} {under : List Frame} {code : List ℕ} {o : Read Query} {r : Act} → m ≤ n → Acts s at n under code o r → Acts s at m under code o r
+pub acts_fewer : {s : List ℕ} {at n m : ℕ} {under : List Frame} {code : List ℕ} {o : Read Query} {r : Std.Result Act Refusal} → m ≤ n → Acts s at n under code o r → Acts s at m under code o r
 acts_fewer l (Says.refuses e) = Says.refuses e
 acts_fewer l (Says.makes q h e a b c d f) = Says.makes q h e a (omega (arith, b)) c d f
 acts_fewer l (Says.opens f k h e a o b c d g i j x) = Says.opens f k h e a o b (omega (arith, c)) d g i j x
 acts_fewer l (Says.again k ms h e a b c d f) = Says.again k ms h e a (omega (arith, b)) c d f
 
 -- REFUSED, whatever is open
-pub refused_does : {gap : ℕ} {s : List ℕ} {at deep nodes n place : ℕ} {code u : List ℕ} (o : ℕ → Here → Read Query) → ((k : ℕ) (h : Here) → h.at ≡ at → o k h ≡ refused n place) → Does gap s at deep nodes code o (Act.Refused n place) u
+pub refused_does : {gap : ℕ} {s : List ℕ} {at deep nodes : ℕ} {x : Refusal} {code u : List ℕ} (o : ℕ → Here → Read Query) → ((k : ℕ) (h : Here) → h.at ≡ at → o k h ≡ refused (number_of x.reason) x.place) → Does gap s at deep nodes code o (Std.Err x) u
 refused_does o f = record { is = λ from under k h g w. Says.refuses (f k h w.stops.place) }
 
 -- AN ITEM of one node
 pub leaf_does : {gap : ℕ} {s : List ℕ} {at deep nodes next : ℕ} {code u : List ℕ} {x : Node} {r : Act} (o : ℕ → Here → Read Query) (q : ℕ → Query) → Emitted nodes x next code r u → ((k : ℕ) (h : Here) → h.at ≡ at → o k h ≡ ok (q h.nodes, here next (suc h.nodes)))
-    → at ≤ next → next ≤ length s → ((n : ℕ) → query_no (q n) ≡ n) → ((n : ℕ) → query_nodes (q n) ≡ x ∷ []) → Does gap s at deep nodes code o r u
+    → at ≤ next → next ≤ length s → ((n : ℕ) → query_no (q n) ≡ n) → ((n : ℕ) → query_nodes (q n) ≡ x ∷ []) → Does gap s at deep nodes code o (Std.Ok r) u
 leaf_does {code = code} {x = x} o q e f a b own rows =
     record {
       is = λ from under k h g w.
@@ -49,9 +53,9 @@ leaf_does {code = code} {x = x} o q e f a b own rows =
     }
 
 -- A FRAME OPENS: it keeps nothing, and opens one more
-pub opens_acts : {s : List ℕ} {from at deep to nodes next kind a b : ℕ} {code : List ℕ} {under : List Frame} {k : ℕ} {h : Here} {o : Read Query} (f : Frame) (m : ℕ) → to ≡ suc deep → Wants s at deep nodes code under k h
-    → o ≡ (query_at s (suc m) (many f) (suc deep) (here next h.nodes) >>= λ p. cont s f p) → Shown h.nodes f kind a b → from < next → at ≤ next → next ≤ length s → length s ≤ m + next → deep < 100
-    → depth (f ∷ under) ≡ suc (depth under) → pairs (f ∷ under) ≡ pairs under → Stands f under → flat f → Deep s next f → held f ≡ [] → Acts s from h.nodes under code o (Act.More kind a b to next nodes)
+pub opens_acts : {s : List ℕ} {from at deep to nodes next : ℕ} {x : Open} {code : List ℕ} {under : List Frame} {k : ℕ} {h : Here} {o : Read Query} (f : Frame) (m : ℕ) → to ≡ suc deep → Wants s at deep nodes code under k h
+    → o ≡ (query_at s (suc m) (many f) (suc deep) (here next h.nodes) >>= λ p. cont s f p) → Shown h.nodes f x → from < next → at ≤ next → next ≤ length s → length s ≤ m + next → deep < 100
+    → depth (f ∷ under) ≡ suc (depth under) → pairs (f ∷ under) ≡ pairs under → Stands f under → flat f → Deep s next f → held f ≡ [] → Acts s from h.nodes under code o (Std.Ok (Act.More x to (record { next = next; nodes = nodes })))
 unfolding rows_of
 opens_acts {next = next} {under = under} {h = h} f m z w p shown a b c fuel low d q stands plain deep none =
     rw z
@@ -64,13 +68,13 @@ pub wants_later : {s : List ℕ} {at next deep nodes : ℕ} {code : List ℕ} {u
 wants_later w a b fuel =
     record { open_are = w.open_are; fuel = fuel; stops = record { place = refl; inside = b; count = w.stops.count }; well = well_later w.well a (omega arith); rows = w.rows }
 
-pub does_later : {gap : ℕ} {s : List ℕ} {at next deep nodes : ℕ} {code u : List ℕ} {r : Act} (o p : ℕ → Here → Read Query) → Does gap s next deep nodes code p r u → at + gap ≤ next → next ≤ length s
+pub does_later : {gap : ℕ} {s : List ℕ} {at next deep nodes : ℕ} {code u : List ℕ} {r : Std.Result Act Refusal} (o p : ℕ → Here → Read Query) → Does gap s next deep nodes code p r u → at + gap ≤ next → next ≤ length s
     → ((k : ℕ) (h : Here) → h.at ≡ at → o k h ≡ p k (here next h.nodes)) → Does 0 s at deep nodes code o r u
 does_later {s = s} {u = u} {r = r} o p d a b f =
     record { is = λ from under k h g w. subst (λ (x : Read Query). Acts s from h.nodes under u x r) (sym (f k h w.stops.place)) (d.is from under k (here _ h.nodes) (omega (arith, a, g)) (wants_later w (omega (arith, a)) b (omega (arith, a, w.fuel)))) }
 
 -- and read one less deep
-pub does_deeper : {gap : ℕ} {s : List ℕ} {at next deep nodes : ℕ} {code u : List ℕ} {r : Act} (o p : ℕ → Here → Read Query) → Does gap s next deep nodes code p r u → at + gap ≤ next → at < next → next ≤ length s
+pub does_deeper : {gap : ℕ} {s : List ℕ} {at next deep nodes : ℕ} {code u : List ℕ} {r : Std.Result Act Refusal} (o p : ℕ → Here → Read Query) → Does gap s next deep nodes code p r u → at + gap ≤ next → at < next → next ≤ length s
     → ((k : ℕ) (h : Here) → h.at ≡ at → o (suc k) h ≡ p k (here next h.nodes)) → Does 0 s at deep nodes code o r u
 does_deeper {s = s} {at} {next} {deep} {nodes} {code} {u} {r} o p d a c b f = record { is = go }
   where

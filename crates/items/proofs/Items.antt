@@ -1,14 +1,14 @@
 -- Each item of the grammar, by its first token: what the definition reads there, and what is done.
 -- Assumes nothing.
 use mathlib.Core.Path.{◌≡◌, refl, sym, ap, ◌∙◌}
-use mathlib.Core.Bool.{Bool, true, false}
+use mathlib.Core.Bool.{true}
 use mathlib.Core.List.{List, [], ◌∷◌}
 use Prim.Native.Nat.{ℕ, suc, ◌≤◌, ◌<◌}
 use native.Mathlib.Omega.{arith}
 use lib.ListN.{length}
 use borrow.Author.Tests.{eq-eqb, ne_eqb, lt-ltb, le-ltb}
 use Rattle.meaning.specs.Base.{Out, ok, refused, ◌>>=◌, find}
-use Rattle.meaning.specs.Records.{node}
+use Rattle.meaning.specs.Records.{Node, node}
 use Rattle.meaning.specs.Queries.{nothing, text, variable}
 use Rattle.meaning.specs.Tokens.{token_at}
 use Rattle.meaning.specs.Texts.{Here, here, expect, number_in, opened, test_at, step_at, group_at, query_at, query_no, query_nodes}
@@ -17,43 +17,44 @@ use Rattle.tokens.specs.Says.{kind_of, Tells}
 use Rattle.steps.specs.declared.Got.{Got}
 use Rattle.steps.specs.Says as Said
 use Rattle.steps.proofs.Expecting.{token_onward}
+use Rattle.std.specs.Prelude as Std
+use Rattle.refusals.specs.declared.Refusal.{Refusal}
+use Rattle.items.specs.declared.Axis.{Axis}
 use Rattle.items.specs.declared.Act.{Act}
 use Rattle.items.specs.Machine as Machine
 use Rattle.items.specs.Machine.{Frame, item_at, cont, rows_of, opens, depth, pairs}
-use Rattle.items.specs.Says.{Emitted, Does, opening, text_behind, is_child, step_kind, step_of, test_behind, group_behind, inside_at}
-use Rattle.items.proofs.Outs.{at_here, got_then, got_not, got_on}
+use Rattle.items.specs.Says.{Emitted, Does, opening, text_behind, step_kind, step_of, test_behind, group_behind, inside_at}
+use Rattle.items.proofs.Outs.{at_here, got_then, got_not}
 use Rattle.items.proofs.Doing.{refused_does, leaf_does}
 
 -- A TEXT
-module _ {s : List ℕ} {at nodes : ℕ} {code u : List ℕ} {r : Got} (g : Said.Gives s at r (λ n. number_in s 0 65535 (here at n))) where
-  pub text_made : {v next : ℕ} {a : Act} → r ≡ Got.Number v next → Emitted nodes (node 33 v 0 0) next code a u → (deep : ℕ) → Does 0 s at deep nodes code (λ k h. text_behind s h) a u
+module _ {s : List ℕ} {at nodes : ℕ} {code u : List ℕ} where
+  pub text_made : {v : Got} {a : Act} → Said.Gives s at (Std.Ok v) (λ n. number_in s 0 65535 (here at n)) → Emitted nodes (node 33 v.value 0 0) v.next code a u → (deep : ℕ) → Does 0 s at deep nodes code (λ k h. text_behind s h) (Std.Ok a) u
   unfolding query_nodes
-  text_made {v} e m deep =
-      let on = got_on g e in
-      leaf_does (λ k h. text_behind s h) (λ n. text n v) m (λ k h p. got_then (number_in s 0 65535) g h p _ e) (omega (arith, on.0)) on.1 (λ n. refl) (λ n. refl)
+  text_made {v} g m deep =
+      leaf_does (λ k h. text_behind s h) (λ n. text n v.value) m (λ k h p. got_then (number_in s 0 65535) g h p _) (omega (arith, g.onward.0)) g.onward.1 (λ n. refl) (λ n. refl)
 
-  pub text_not : {n place : ℕ} → r ≡ Got.Refused n place → (deep : ℕ) → Does 0 s at deep nodes code (λ k h. text_behind s h) (Act.Refused n place) u
-  text_not e deep = refused_does (λ k h. text_behind s h) (λ k h p. got_not (number_in s 0 65535) g h p _ e)
+  pub text_not : {x : Refusal} → Said.Gives s at (Std.Err x) (λ n. number_in s 0 65535 (here at n)) → (deep : ℕ) → Does 0 s at deep nodes code (λ k h. text_behind s h) (Std.Err x) u
+  text_not g deep = refused_does (λ k h. text_behind s h) (λ k h p. got_not (number_in s 0 65535) g h p _)
 
 -- A STEP
-step_no : (b : Bool) (n v t : ℕ) → query_no (step_of b n v t) ≡ n
-step_no true n v t = refl
-step_no false n v t = refl
+step_no : (b : Axis) (n v t : ℕ) → query_no (step_of b n v t) ≡ n
+step_no Axis.Child n v t = refl
+step_no Axis.Dos n v t = refl
 
-step_nodes : (b : Bool) (n v t : ℕ) → query_nodes (step_of b n v t) ≡ node (step_kind b) v t 0 ∷ []
+step_nodes : (b : Axis) (n v t : ℕ) → query_nodes (step_of b n v t) ≡ node (step_kind b) v t 0 ∷ []
 unfolding query_nodes
-step_nodes true n v t = refl
-step_nodes false n v t = refl
+step_nodes Axis.Child n v t = refl
+step_nodes Axis.Dos n v t = refl
 
-module _ {s : List ℕ} {at nodes : ℕ} (kind v : ℕ) {code u : List ℕ} {r : Got} (g : Said.Gives s at r (λ n. test_at s (here at n))) where
-  pub test_made : {t next : ℕ} {a : Act} → kind ≡ step_kind (is_child kind) → r ≡ Got.Number t next → Emitted nodes (node kind v t 0) next code a u → (deep : ℕ) → Does 0 s at deep nodes code (λ k h. test_behind (is_child kind) s v h) a u
-  test_made {t} q e m deep =
-      let on = got_on g e in
-      leaf_does (λ k h. test_behind (is_child kind) s v h) (λ n. step_of (is_child kind) n v t) m (λ k h p. got_then (test_at s) g h p _ e) (omega (arith, on.0)) on.1 (λ n. step_no (is_child kind) n v t)
-      (λ n. step_nodes (is_child kind) n v t ∙ ap (λ (x : ℕ). node x v t 0 ∷ []) (sym q))
+module _ {s : List ℕ} {at nodes : ℕ} (b : Axis) (v : ℕ) {code u : List ℕ} where
+  pub test_made : {t : Got} {x : Node} {a : Act} → Said.Gives s at (Std.Ok t) (λ n. test_at s (here at n)) → x ≡ node (step_kind b) v t.value 0 → Emitted nodes x t.next code a u → (deep : ℕ) → Does 0 s at deep nodes code (λ k h. test_behind b s v h) (Std.Ok a) u
+  test_made {t} g q m deep =
+      leaf_does (λ k h. test_behind b s v h) (λ n. step_of b n v t.value) m (λ k h p. got_then (test_at s) g h p _) (omega (arith, g.onward.0)) g.onward.1 (λ n. step_no b n v t.value)
+      (λ n. step_nodes b n v t.value ∙ ap (λ (y : Node). y ∷ []) (sym q))
 
-  pub test_not : {n place : ℕ} → r ≡ Got.Refused n place → (deep : ℕ) → Does 0 s at deep nodes code (λ k h. test_behind (is_child kind) s v h) (Act.Refused n place) u
-  test_not e deep = refused_does (λ k h. test_behind (is_child kind) s v h) (λ k h p. got_not (test_at s) g h p _ e)
+  pub test_not : {x : Refusal} → Said.Gives s at (Std.Err x) (λ n. test_at s (here at n)) → (deep : ℕ) → Does 0 s at deep nodes code (λ k h. test_behind b s v h) (Std.Err x) u
+  test_not g deep = refused_does (λ k h. test_behind b s v h) (λ k h p. got_not (test_at s) g h p _)
 
 -- A TOKEN that was looked at: it is not the end
 pub token_on : (s : List ℕ) (at : ℕ) {t : Placed} → Tells (token_at s at) t → {kind : ℕ} → kind ≡ kind_of t.token → at ≤ length s → 0 < kind → (at < t.next) × (t.next ≤ length s)
@@ -67,11 +68,11 @@ module _ (s : List ℕ) (at : ℕ) {t : Placed} (tells : Tells (token_at s at) t
   unseen f e = f (is ∙ tells.token.kind ∙ e)
 
   -- behind a variable
-  pub step_child : (v : ℕ) (h : Here) → h.at ≡ at → kind ≡ 22 → step_at s v h ≡ test_behind true s v (here t.next h.nodes)
+  pub step_child : (v : ℕ) (h : Here) → h.at ≡ at → kind ≡ 22 → step_at s v h ≡ test_behind Axis.Child s v (here t.next h.nodes)
   unfolding step_at find
   step_child v h p e = at_here (step_at s v) p ∙ rw (seen e, tells.next) refl
 
-  pub step_dos : (v : ℕ) (h : Here) → h.at ≡ at → kind ≡ 23 → step_at s v h ≡ test_behind false s v (here t.next h.nodes)
+  pub step_dos : (v : ℕ) (h : Here) → h.at ≡ at → kind ≡ 23 → step_at s v h ≡ test_behind Axis.Dos s v (here t.next h.nodes)
   unfolding step_at find
   step_dos v h p e = at_here (step_at s v) p ∙ rw (seen e, tells.next) refl
 

@@ -5,7 +5,6 @@ pub mod Doing
 pub mod Items
 pub mod Openings
 pub mod Guards
-pub mod Known
 pub mod Begins
 pub mod Goings
 pub mod Framed

@@ -7,10 +7,11 @@ use Prim.Native.Nat.{ℕ}
 use lib.Dec.{ltb}
 use Rattle.meaning.specs.Base.{Out, ok, refused, ◌>>=◌, require}
 use Rattle.meaning.specs.Texts.{Here, here, Read, look, past, expect, opened}
-use Rattle.steps.specs.declared.Went.{Went}
+use Rattle.std.specs.Prelude as Std
+use Rattle.refusals.specs.declared.Refusal.{Refusal}
+use Rattle.refusals.specs.Says.{number_of}
 use Rattle.steps.specs.declared.Got.{Got}
 use Rattle.steps.specs.Says as Said
-use Rattle.steps.specs.Says.{went_of, got_of, Onward, WentOn, GotOn}
 use Rattle.items.specs.Says.{opening}
 
 pub bind_ok : {A : Type 0} (x : Out A) → (x >>= λ p. ok p) ≡ x
@@ -38,22 +39,16 @@ opened_then s deep h f = go (ltb deep 100)
 pub at_here : {A : Type 0} (F : Here → A) {h : Here} {at : ℕ} → h.at ≡ at → F h ≡ F (here at h.nodes)
 at_here F {h} e = ap (λ (a : ℕ). F (here a h.nodes)) e
 
-module _ {A : Type 0} {s : List ℕ} {at : ℕ} (G : Here → Read ℕ) {r : Got} (g : Said.Gives s at r (λ n. G (here at n))) (h : Here) (p : h.at ≡ at) (K : ℕ × Here → Out A) where
-  pub got_then : {v next : ℕ} → r ≡ Got.Number v next → (G h >>= K) ≡ K (v, here next h.nodes)
-  got_then e = ap (λ (x : Read ℕ). x >>= K) (at_here G p ∙ sym (g.is h.nodes) ∙ ap (got_of h.nodes) e)
+module _ {A : Type 0} {s : List ℕ} {at : ℕ} (G : Here → Read ℕ) where
+  pub got_then : {v : Got} → Said.Gives s at (Std.Ok v) (λ n. G (here at n)) → (h : Here) → h.at ≡ at → (K : ℕ × Here → Out A) → (G h >>= K) ≡ K (v.value, here v.next h.nodes)
+  got_then g h p K = ap (λ (x : Read ℕ). x >>= K) (at_here G p ∙ sym (g.is h.nodes))
 
-  pub got_not : {n place : ℕ} → r ≡ Got.Refused n place → (G h >>= K) ≡ refused n place
-  got_not e = ap (λ (x : Read ℕ). x >>= K) (at_here G p ∙ sym (g.is h.nodes) ∙ ap (got_of h.nodes) e)
+  pub got_not : {x : Refusal} → Said.Gives s at (Std.Err x) (λ n. G (here at n)) → (h : Here) → h.at ≡ at → (K : ℕ × Here → Out A) → (G h >>= K) ≡ refused (number_of x.reason) x.place
+  got_not g h p K = ap (λ (x : Read ℕ). x >>= K) (at_here G p ∙ sym (g.is h.nodes))
 
-pub got_on : {s : List ℕ} {at : ℕ} {F : ℕ → Read ℕ} {r : Got} → Said.Gives s at r F → {v next : ℕ} → r ≡ Got.Number v next → Onward s at next
-got_on {s} {at} g e = rw e at g.onward
+module _ {A : Type 0} {s : List ℕ} {at : ℕ} (kind : ℕ) where
+  pub went_then : {next : ℕ} → Said.Goes s at (Std.Ok next) (λ n. expect s kind (here at n)) → (h : Here) → h.at ≡ at → (K : Here → Out A) → (expect s kind h >>= K) ≡ K (here next h.nodes)
+  went_then g h p K = ap (λ (x : Out Here). x >>= K) (at_here (expect s kind) p ∙ sym (g.is h.nodes))
 
-module _ {A : Type 0} {s : List ℕ} {at : ℕ} (kind : ℕ) {r : Went} (g : Said.Goes s at r (λ n. expect s kind (here at n))) (h : Here) (p : h.at ≡ at) (K : Here → Out A) where
-  pub went_then : {next : ℕ} → r ≡ Went.To next → (expect s kind h >>= K) ≡ K (here next h.nodes)
-  went_then e = ap (λ (x : Out Here). x >>= K) (at_here (expect s kind) p ∙ sym (g.is h.nodes) ∙ ap (went_of h.nodes) e)
-
-  pub went_not : {n place : ℕ} → r ≡ Went.Refused n place → (expect s kind h >>= K) ≡ refused n place
-  went_not e = ap (λ (x : Out Here). x >>= K) (at_here (expect s kind) p ∙ sym (g.is h.nodes) ∙ ap (went_of h.nodes) e)
-
-pub went_on : {s : List ℕ} {at : ℕ} {F : ℕ → Out Here} {r : Went} → Said.Goes s at r F → {next : ℕ} → r ≡ Went.To next → Onward s at next
-went_on {s} {at} g e = rw e at g.onward
+  pub went_not : {x : Refusal} → Said.Goes s at (Std.Err x) (λ n. expect s kind (here at n)) → (h : Here) → h.at ≡ at → (K : Here → Out A) → (expect s kind h >>= K) ≡ refused (number_of x.reason) x.place
+  went_not g h p K = ap (λ (x : Out Here). x >>= K) (at_here (expect s kind) p ∙ sym (g.is h.nodes))

@@ -4,17 +4,28 @@ use Rattle.std.specs.Prelude.{◌≡◌, Bool, true, false, List, [], ◌∷◌,
 use Rattle.meaning.specs.Base.{ok, ◌>>=◌}
 use Rattle.meaning.specs.Records.{Node}
 use Rattle.meaning.specs.Queries.{Cond, Query, pair, element, for, let_in, when}
+use Rattle.meaning.specs.Kinds
 use Rattle.meaning.specs.Tokens
 use Rattle.meaning.specs.Texts.{Here, Read, one, expect, cond_at, item_by, joined_by, query_at, cond_no, query_no, cond_nodes, query_nodes}
+use Rattle.items.specs.declared.Binder.{Binder}
+use Rattle.items.specs.declared.Open.{Open}
 
 -- an item, whose parts are read k deep
 abbrev pub item_at : List ℕ → ℕ → ℕ → Here → Read Query
 item_at s k deep h = item_by s (λ o i. query_at s k true o i) (λ o i. query_at s k false o i) (λ o i. cond_at s k o i) deep h
 
--- a for (true) or a let
-abbrev pub bound : Bool → ℕ → ℕ → Query → Query → Query
-bound true n v p q = for n v p q
-bound false n v p q = let_in n v p q
+-- a for or a let, the kind of its node, and the sign behind its variable
+abbrev pub bound : Binder → ℕ → ℕ → Query → Query → Query
+bound Binder.For n v p q = for n v p q
+bound Binder.Let n v p q = let_in n v p q
+
+abbrev pub bound_kind : Binder → ℕ
+bound_kind Binder.For = Kinds.query·for
+bound_kind Binder.Let = Kinds.query·let
+
+abbrev pub sign_of : Binder → ℕ
+sign_of Binder.For = Tokens.token·in
+sign_of Binder.Let = Tokens.token·gets
 
 -- pairs of first parts that are not kept, the innermost first
 unfoldable pub folded : List ℕ → List Query → Query × Here → Read Query
@@ -27,8 +38,8 @@ pub data Frame : Type 0 where
   second : (m : Query) → Frame
   group : Frame
   inside : (l : ℕ) → Frame
-  source : (b : Bool) (v k deep : ℕ) → Frame
-  body : (b : Bool) (v : ℕ) (p : Query) → Frame
+  source : (b : Binder) (v k deep : ℕ) → Frame
+  body : (b : Binder) (v : ℕ) (p : Query) → Frame
   guarded : (c : Cond) → Frame
 
 unfoldable pub cont : List ℕ → Frame → Query × Here → Read Query
@@ -135,28 +146,20 @@ unfoldable pub AllDeep : List ℕ → ℕ → List Frame → Type 0
 AllDeep s at [] = Unit {0}
 AllDeep s at (f ∷ fs) = Deep s at f × AllDeep s at fs
 
--- THE WORDS of a frame, where there are n nodes: beyond 1,024 the number of a part does not matter
-abbrev pub part : Bool → ℕ
-part true = 5
-part false = 6
-
-abbrev pub whole : Bool → ℕ
-whole true = 7
-whole false = 8
-
 -- only beyond 1,024 nodes is a first part not kept
 abbrev pub Kept : ℕ → List Query → Type 0
 Kept n [] = Unit {0}
 Kept n (m ∷ ms) = 1024 < n
 
-abbrev pub Shown : ℕ → Frame → ℕ → ℕ → ℕ → Type 0
-Shown n (tail k deep ms) kind a b = (kind ≡ 1) × (a ≡ deep) × Kept n ms
-Shown n (second m) kind a b = (kind ≡ 2) × (n ≤ 1024 → a ≡ query_no m)
-Shown n group kind a b = kind ≡ 3
-Shown n (inside l) kind a b = (kind ≡ 4) × (a ≡ l)
-Shown n (source c v k deep) kind a b = (kind ≡ part c) × (a ≡ v) × (b ≡ deep)
-Shown n (body c v p) kind a b = (kind ≡ whole c) × (a ≡ v) × (n ≤ 1024 → b ≡ query_no p)
-Shown n (guarded c) kind a b = (kind ≡ 9) × (n ≤ 1024 → a ≡ cond_no c)
+-- WHAT THE CODE KEEPS of a frame, where there are n nodes: beyond 1,024 the number of a part does not matter
+pub data Shown (n : ℕ) : Frame → Open → Type 0 where
+  shows_tail : {k deep : ℕ} {ms : List Query} → Kept n ms → Shown n (tail k deep ms) (Open.Tail deep)
+  shows_second : {m : Query} {a : ℕ} → (n ≤ 1024 → a ≡ query_no m) → Shown n (second m) (Open.Second a)
+  shows_group : Shown n group Open.Group
+  shows_inside : {l : ℕ} → Shown n (inside l) (Open.Inside l)
+  shows_source : {b : Binder} {v k deep : ℕ} → Shown n (source b v k deep) (Open.Source b v deep)
+  shows_body : {b : Binder} {v a : ℕ} {p : Query} → (n ≤ 1024 → a ≡ query_no p) → Shown n (body b v p) (Open.Body b v a)
+  shows_guarded : {c : Cond} {a : ℕ} → (n ≤ 1024 → a ≡ cond_no c) → Shown n (guarded c) (Open.Guarded a)
 
 -- which frames have items behind them that commas may follow
 abbrev pub many : Frame → Bool

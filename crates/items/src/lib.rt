@@ -2,416 +2,418 @@
 // made. Refusals 22, 6 and 23. Nodes are written children first, left first; the node of an item that was made is the last.
 #![tactic(auto)]
 
-ghost use Rattle.std.specs.Prelude.{◌≡◌, List, ℕ, ◌-◌, ◌≤◌, ◌<◌, length};
+ghost use Rattle.std.specs.Prelude.{◌≡◌, List, ℕ, ◌≤◌, ◌<◌, length, Ok};
 ghost use Rattle.meaning.specs.Records.{node};
-ghost use Rattle.items.specs.Machine.{item_at};
-ghost use Rattle.items.specs.Says.{Emitted, Does, Signed, Guards, Goes, Steps, text_behind, is_child, step_kind, test_behind, step_behind, variable_item, group_behind, inside_at, element_at, sign_behind, bound_behind, when_behind};
+ghost use Rattle.tokens.specs.Says.{kind_of};
+ghost use Rattle.items.specs.declared.Open as Opens;
+ghost use Rattle.items.specs.Machine.{item_at, sign_of, bound_kind};
+ghost use Rattle.items.specs.Says.{node_of, Emitted, Does, Guards, Goes, Steps, text_behind, step_kind, test_behind, step_behind, variable_item, group_behind, inside_at, element_at, sign_behind, bound_behind, when_behind};
 
+use queries::Query;
+use refusals::{Reason, Refusal};
 use rows::Part;
-use steps::{Got, Went};
-use words::Entry;
+use tokens::Token;
+use words::Node;
 
-// What a step does: a refusal; an item is made, and the text goes on there; a frame opens, of a kind and two words, with so many open behind it; or the
-// frame stays, and one item more is to be read.
-#[derive(Drop)]
-pub enum Act {
-    Refused {
-        number: u16,
-        place: usize,
-    },
-    Done {
-        next: usize,
-        nodes: u16,
-    },
-    More {
-        kind: u16,
-        a: u16,
-        b: u16,
-        deep: u16,
-        next: usize,
-        nodes: u16,
-    },
-    Again {
-        deep: u16,
-        next: usize,
-    },
+// What binds a variable.
+#[derive(Clone, Copy, Debug, PartialEq, Eq)]
+pub enum Binder {
+    For,
+    Let,
 }
 
-// The number of the last node.
-fn last(nodes: u16) -> u16
-    ensures { result ≡ nodes - 1 }
-{
-    if nodes == 0 {
-        return 0;
+impl Binder {
+    // The sign behind the variable.
+    fn sign(self) -> Token
+        ensures { kind_of result ≡ sign_of self }
+    {
+        match self {
+            Binder::For => Token::In,
+            Binder::Let => Token::Gets,
+        }
     }
-    nodes - 1
-}
 
-// An item with one node more.
-fn made(code: &mut [u16], nodes: u16, kind: u16, a: u16, b: u16, c: u16, next: usize) -> Act
-    requires fact_1 { 4096 ≤ length code.old }
-    requires fact_2 { nodes ≤ 1025 }
-    ensures { Emitted nodes (node kind a b c) next code.old result code.new }
-{
-    let nodes = rows::emit(code, nodes, kind, a, b, c);
-    Act::Done { next, nodes }
-}
-
-// A text number, behind `#`.
-fn text_item(s: &[u8], at: usize, code: &mut [u16], nodes: u16) -> Act
-    requires fact_1 { at ≤ length s.now }
-    requires fact_2 { 4096 ≤ length code.old }
-    requires fact_3 { nodes ≤ 1025 }
-    ensures { (deep : ℕ) → Does 0 s.now at deep nodes code.old (λ k h. text_behind s.now h) result code.new }
-{
-    match steps::number_in(s, at, 0, 65535) {
-        Got::Refused { number, place } => Act::Refused { number, place },
-        Got::Number { value, next } => made(code, nodes, 33, value, 0, 0, next),
-    }
-}
-
-// A test, behind `/` (37) or `//` (38) of a variable.
-fn test_item(s: &[u8], at: usize, kind: u16, v: u16, code: &mut [u16], nodes: u16) -> Act
-    requires fact_1 { at ≤ length s.now }
-    requires fact_2 { 4096 ≤ length code.old }
-    requires fact_3 { nodes ≤ 1025 }
-    requires fact_4 { kind ≡ step_kind (is_child kind) }
-    ensures { (deep : ℕ) → Does 0 s.now at deep nodes code.old (λ k h. test_behind (is_child kind) s.now v h) result code.new }
-{
-    match steps::test_at(s, at) {
-        Got::Refused { number, place } => Act::Refused { number, place },
-        Got::Number { value, next } => made(code, nodes, kind, v, value, 0, next),
-    }
-}
-
-// What may follow a variable.
-fn step_item(s: &[u8], at: usize, v: u16, code: &mut [u16], nodes: u16) -> Act
-    requires fact_1 { at ≤ length s.now }
-    requires fact_2 { 4096 ≤ length code.old }
-    requires fact_3 { nodes ≤ 1025 }
-    ensures { (deep : ℕ) → Does 0 s.now at deep nodes code.old (λ k h. step_behind s.now v h) result code.new }
-{
-    let t = tokens::token_at(s, at);
-    let token = t.token;
-    let kind = tokens::kind_of(token);
-    if kind == 22 {
-        return test_item(s, t.next, 37, v, code, nodes);
-    }
-    if kind == 23 {
-        return test_item(s, t.next, 38, v, code, nodes);
-    }
-    made(code, nodes, 36, v, 0, 0, at)
-}
-
-// A variable, from its `$` on.
-fn variable_item(s: &[u8], at: usize, code: &mut [u16], nodes: u16) -> Act
-    requires fact_1 { at ≤ length s.now }
-    requires fact_2 { 4096 ≤ length code.old }
-    requires fact_3 { nodes ≤ 1025 }
-    ensures { (deep : ℕ) → Does 0 s.now at deep nodes code.old (λ k h. variable_item s.now h) result code.new }
-{
-    match steps::variable_at(s, at) {
-        Got::Refused { number, place } => Act::Refused { number, place },
-        Got::Number { value, next } => step_item(s, next, value, code, nodes),
-    }
-}
-
-// Behind `(`, which stands at a place, where so many were open.
-fn group_item(s: &[u8], place: usize, at: usize, deep: u16, code: &mut [u16], nodes: u16) -> Act
-    requires fact_1 { at ≤ length s.now }
-    requires fact_2 { 4096 ≤ length code.old }
-    requires fact_3 { nodes ≤ 1025 }
-    ensures { Does 1 s.now at deep nodes code.old (λ k h. group_behind s.now place deep k h) result code.new }
-{
-    if 100 <= deep {
-        return Act::Refused { number: 23, place };
-    }
-    let t = tokens::token_at(s, at);
-    let token = t.token;
-    if tokens::kind_of(token) == 16 {
-        return made(code, nodes, 32, 0, 0, 0, t.next);
-    }
-    Act::More {
-        kind: 3,
-        a: 0,
-        b: 0,
-        deep: deep + 1,
-        next: at,
-        nodes,
-    }
-}
-
-// Behind the number of a label, where so many are open: `[`.
-fn inside_item(s: &[u8], at: usize, l: u16, deep: u16, nodes: u16) -> Act
-    requires fact_1 { at ≤ length s.now }
-    requires fact_2 { nodes ≤ 1025 }
-    ensures { (code : List ℕ) → Does 0 s.now at deep nodes code (λ k h. inside_at s.now l deep k h) result code }
-{
-    let t = tokens::token_at(s, at);
-    let place = t.place;
-    let token = t.token;
-    if tokens::kind_of(token) != 17 {
-        return Act::Refused { number: 22, place };
-    }
-    if 100 <= deep {
-        return Act::Refused { number: 23, place };
-    }
-    Act::More {
-        kind: 4,
-        a: l,
-        b: 0,
-        deep: deep + 1,
-        next: t.next,
-        nodes,
-    }
-}
-
-// A label number, where so many are open.
-fn element_item(s: &[u8], at: usize, deep: u16, nodes: u16) -> Act
-    requires fact_1 { at ≤ length s.now }
-    requires fact_2 { nodes ≤ 1025 }
-    ensures { (code : List ℕ) → Does 0 s.now at deep nodes code (λ k h. element_at s.now deep k h) result code }
-{
-    match steps::number_in(s, at, 1, 65534) {
-        Got::Refused { number, place } => Act::Refused { number, place },
-        Got::Number { value, next } => inside_item(s, next, value, deep, nodes),
-    }
-}
-
-// Behind a variable that a for (5) or a let (6) binds: the sign that must come.
-fn sign_item(s: &[u8], at: usize, kind: u16, sign: u16, v: u16, deep: u16, nodes: u16) -> Act
-    requires fact_1 { at ≤ length s.now }
-    requires fact_2 { nodes ≤ 1025 }
-    requires fact_3 { Signed kind sign }
-    requires fact_4 { deep < 100 }
-    ensures { (code : List ℕ) → Does 0 s.now at deep nodes code (λ k h. sign_behind kind s.now v deep k h) result code }
-{
-    match steps::expect(s, at, sign) {
-        Went::Refused { number, place } => Act::Refused { number, place },
-        Went::To(next) => Act::More {
-            kind,
-            a: v,
-            b: deep + 1,
-            deep: deep + 1,
-            next,
-            nodes,
-        },
-    }
-}
-
-// Behind `for` (5) or `let` (6), which stands at a place, where so many were open.
-fn bound_item(s: &[u8], place: usize, at: usize, kind: u16, sign: u16, deep: u16, nodes: u16) -> Act
-    requires fact_1 { at ≤ length s.now }
-    requires fact_2 { nodes ≤ 1025 }
-    requires fact_3 { Signed kind sign }
-    ensures { (code : List ℕ) → Does 0 s.now at deep nodes code (λ k h. bound_behind kind s.now place deep k h) result code }
-{
-    if 100 <= deep {
-        return Act::Refused { number: 23, place };
-    }
-    match steps::variable_at(s, at) {
-        Got::Refused { number, place } => Act::Refused { number, place },
-        Got::Number { value, next } => sign_item(s, next, kind, sign, value, deep, nodes),
-    }
-}
-
-// Behind the condition of a when: `return`.
-fn body_item(s: &[u8], at: usize, deep: u16, nodes: u16) -> Act
-    requires fact_1 { at ≤ length s.now }
-    requires fact_2 { nodes ≤ 1025 }
-    requires fact_3 { deep < 100 }
-    ensures { Guards s.now at deep nodes result }
-{
-    match steps::expect(s, at, 5) {
-        Went::Refused { number, place } => Act::Refused { number, place },
-        Went::To(next) => {
-            let a = last(nodes);
-            Act::More {
-                kind: 9,
-                a,
-                b: 0,
-                deep: deep + 1,
-                next,
-                nodes,
-            }
+    // What it is with this variable, source and body.
+    fn query(self, v: u16, p: u16, q: u16) -> Query
+        ensures { node_of result ≡ node (bound_kind self) v p q }
+    {
+        match self {
+            Binder::For => Query::For(v, p, q),
+            Binder::Let => Query::Let(v, p, q),
         }
     }
 }
 
-// Behind `when`, which stands at a place, where so many were open.
-fn when_item(s: &[u8], place: usize, at: usize, deep: u16, code: &mut [u16], nodes: u16) -> Act
-    requires fact_1 { at ≤ length s.now }
-    requires fact_2 { 4096 ≤ length code.old }
-    requires fact_3 { nodes ≤ 1025 }
-    ensures { Does 0 s.now at deep nodes code.old (λ k h. when_behind s.now place deep k h) result code.new }
-{
-    if 100 <= deep {
-        return Act::Refused { number: 23, place };
-    }
-    match conditions::condition(s, at, deep + 1, code, nodes) {
-        Part::Refused { number, place } => Act::Refused { number, place },
-        Part::Made { next, nodes: count } => body_item(s, next, deep, count),
+// What is open: items that commas may follow, where so many are open; the second part of a pair, with the node of the first; `(`; `[` of this label; the
+// source of a for or let of this variable, where so many are open; its body, with the node of the source; the body of a when, with the node of its condition.
+#[derive(Clone, Copy, Debug, PartialEq, Eq)]
+pub enum Open {
+    Tail(u16),
+    Second(u16),
+    Group,
+    Inside(u16),
+    Source(Binder, u16, u16),
+    Body(Binder, u16, u16),
+    Guarded(u16),
+}
+
+// What is to be done: an item is to be read, where so many are open; or what is open goes on behind the item that was made.
+#[derive(Clone, Copy, Debug, PartialEq, Eq)]
+pub enum Task {
+    Item(u16),
+    Behind(Open),
+}
+
+// What a step does: an item is made; one more is open, with so many open behind it; or what is open stays so, as many are, and one item more is to be read there.
+#[derive(Clone, Copy, Debug, PartialEq, Eq)]
+pub enum Act {
+    Done(Part),
+    More(Open, u16, Part),
+    Again(u16, usize),
+}
+
+// Which way a step goes from a variable: `/` or `//`.
+#[derive(Clone, Copy, Debug, PartialEq, Eq)]
+enum Axis {
+    Child,
+    Dos,
+}
+
+impl Axis {
+    // The step from a variable to what passes a test.
+    fn query(self, v: u16, test: u16) -> Query
+        ensures { node_of result ≡ node (step_kind self) v test 0 }
+    {
+        match self {
+            Axis::Child => Query::Child(v, test),
+            Axis::Dos => Query::Dos(v, test),
+        }
     }
 }
 
-// An item that is to be read, where so many are open.
-fn begin(s: &[u8], at: usize, deep: u16, code: &mut [u16], nodes: u16) -> Act
-    requires fact_1 { at ≤ length s.now }
-    requires fact_2 { 4096 ≤ length code.old }
-    requires fact_3 { nodes ≤ 1025 }
-    ensures { Does 0 s.now at deep nodes code.old (λ k h. item_at s.now k deep h) result code.new }
+// The node of a query.
+fn node_of(query: Query) -> Node
+    ensures { node result.kind result.a result.b result.c ≡ node_of query }
+{
+    let (kind, a, b, c) = match query {
+        Query::Nothing => (32, 0, 0, 0),
+        Query::Text(t) => (33, t, 0, 0),
+        Query::Element(l, q) => (34, l, q, 0),
+        Query::Pair(p, q) => (35, p, q, 0),
+        Query::Variable(v) => (36, v, 0, 0),
+        Query::Child(v, test) => (37, v, test, 0),
+        Query::Dos(v, test) => (38, v, test, 0),
+        Query::For(v, p, q) => (39, v, p, q),
+        Query::Let(v, p, q) => (40, v, p, q),
+        Query::When(p, q) => (41, p, q, 0),
+    };
+    Node { kind, a, b, c }
+}
+
+// An item that is made: its node is the last.
+fn made(code: &mut [u16], nodes: u16, query: Query, next: usize) -> Act
+    requires room { 4096 ≤ length code.old }
+    requires few { nodes ≤ 1025 }
+    ensures { Emitted nodes (node_of query) next code.old result code.new }
+{
+    let nodes = rows::emit(code, nodes, node_of(query));
+    Act::Done(Part { next, nodes })
+}
+
+// A text number, behind `#`.
+fn text_item(s: &[u8], at: usize, code: &mut [u16], nodes: u16) -> Result<Act, Refusal>
+    requires inside { at ≤ length s.now }
+    requires room { 4096 ≤ length code.old }
+    requires few { nodes ≤ 1025 }
+    ensures { (deep : ℕ) → Does 0 s.now at deep nodes code.old (λ k h. text_behind s.now h) result code.new }
+{
+    let t = steps::number_in(s, at, 0, 65535)?;
+    Ok(made(code, nodes, Query::Text(t.value), t.next))
+}
+
+// A test, behind `/` or `//` of a variable.
+fn test_item(
+    s: &[u8],
+    at: usize,
+    axis: Axis,
+    v: u16,
+    code: &mut [u16],
+    nodes: u16,
+) -> Result<Act, Refusal>
+    requires inside { at ≤ length s.now }
+    requires room { 4096 ≤ length code.old }
+    requires few { nodes ≤ 1025 }
+    ensures { (deep : ℕ) → Does 0 s.now at deep nodes code.old (λ k h. test_behind axis s.now v h) result code.new }
+{
+    let t = steps::test_at(s, at)?;
+    Ok(made(code, nodes, axis.query(v, t.value), t.next))
+}
+
+// What may follow a variable.
+fn step_item(s: &[u8], at: usize, v: u16, code: &mut [u16], nodes: u16) -> Result<Act, Refusal>
+    requires inside { at ≤ length s.now }
+    requires room { 4096 ≤ length code.old }
+    requires few { nodes ≤ 1025 }
+    ensures { (deep : ℕ) → Does 0 s.now at deep nodes code.old (λ k h. step_behind s.now v h) result code.new }
+{
+    let t = tokens::token_at(s, at);
+    match t.token {
+        Token::Slash => test_item(s, t.next, Axis::Child, v, code, nodes),
+        Token::Slashes => test_item(s, t.next, Axis::Dos, v, code, nodes),
+        _ => Ok(made(code, nodes, Query::Variable(v), at)),
+    }
+}
+
+// A variable, from its `$` on.
+fn variable_item(s: &[u8], at: usize, code: &mut [u16], nodes: u16) -> Result<Act, Refusal>
+    requires inside { at ≤ length s.now }
+    requires room { 4096 ≤ length code.old }
+    requires few { nodes ≤ 1025 }
+    ensures { (deep : ℕ) → Does 0 s.now at deep nodes code.old (λ k h. variable_item s.now h) result code.new }
+{
+    let v = steps::variable_at(s, at)?;
+    step_item(s, v.next, v.value, code, nodes)
+}
+
+// Behind `(`, which stands at a place, where so many were open.
+fn group_item(
+    s: &[u8],
+    place: usize,
+    at: usize,
+    deep: u16,
+    code: &mut [u16],
+    nodes: u16,
+) -> Result<Act, Refusal>
+    requires inside { at ≤ length s.now }
+    requires room { 4096 ≤ length code.old }
+    requires few { nodes ≤ 1025 }
+    ensures { Does 1 s.now at deep nodes code.old (λ k h. group_behind s.now place deep k h) result code.new }
+{
+    steps::check_depth(deep, place)?;
+    let t = tokens::token_at(s, at);
+    match t.token {
+        Token::Closes => Ok(made(code, nodes, Query::Nothing, t.next)),
+        _ => Ok(Act::More(Open::Group, deep + 1, Part { next: at, nodes })),
+    }
+}
+
+// Behind the number of a label, where so many are open: `[`.
+fn inside_item(s: &[u8], at: usize, l: u16, deep: u16, nodes: u16) -> Result<Act, Refusal>
+    requires inside { at ≤ length s.now }
+    requires few { nodes ≤ 1025 }
+    ensures { (code : List ℕ) → Does 0 s.now at deep nodes code (λ k h. inside_at s.now l deep k h) result code }
 {
     let t = tokens::token_at(s, at);
     let place = t.place;
-    let token = t.token;
-    let kind = tokens::kind_of(token);
-    if kind == 2 {
-        return element_item(s, at, deep, nodes);
+    match t.token {
+        Token::Inside => {
+            steps::check_depth(deep, place)?;
+            let part = Part {
+                next: t.next,
+                nodes,
+            };
+            Ok(Act::More(Open::Inside(l), deep + 1, part))
+        }
+        _ => Err(Refusal {
+            reason: Reason::NoSuchText,
+            place,
+        }),
     }
-    if kind == 3 {
-        return bound_item(s, place, t.next, 5, 4, deep, nodes);
+}
+
+// A label number, where so many are open.
+fn element_item(s: &[u8], at: usize, deep: u16, nodes: u16) -> Result<Act, Refusal>
+    requires inside { at ≤ length s.now }
+    requires few { nodes ≤ 1025 }
+    ensures { (code : List ℕ) → Does 0 s.now at deep nodes code (λ k h. element_at s.now deep k h) result code }
+{
+    let l = steps::number_in(s, at, 1, 65534)?;
+    inside_item(s, l.next, l.value, deep, nodes)
+}
+
+// Behind a variable that a for or a let binds: the sign that must come.
+fn sign_item(
+    s: &[u8],
+    at: usize,
+    binder: Binder,
+    v: u16,
+    deep: u16,
+    nodes: u16,
+) -> Result<Act, Refusal>
+    requires inside { at ≤ length s.now }
+    requires few { nodes ≤ 1025 }
+    requires low { deep < 100 }
+    ensures { (code : List ℕ) → Does 0 s.now at deep nodes code (λ k h. sign_behind binder s.now v deep k h) result code }
+{
+    let next = steps::expect(s, at, binder.sign())?;
+    Ok(Act::More(
+        Open::Source(binder, v, deep + 1),
+        deep + 1,
+        Part { next, nodes },
+    ))
+}
+
+// Behind `for` or `let`, which stands at a place, where so many were open.
+fn bound_item(
+    s: &[u8],
+    place: usize,
+    at: usize,
+    binder: Binder,
+    deep: u16,
+    nodes: u16,
+) -> Result<Act, Refusal>
+    requires inside { at ≤ length s.now }
+    requires few { nodes ≤ 1025 }
+    ensures { (code : List ℕ) → Does 0 s.now at deep nodes code (λ k h. bound_behind binder s.now place deep k h) result code }
+{
+    steps::check_depth(deep, place)?;
+    let v = steps::variable_at(s, at)?;
+    sign_item(s, v.next, binder, v.value, deep, nodes)
+}
+
+// Behind the condition of a when: `return`.
+fn body_item(s: &[u8], at: usize, deep: u16, nodes: u16) -> Result<Act, Refusal>
+    requires inside { at ≤ length s.now }
+    requires few { nodes ≤ 1025 }
+    requires low { deep < 100 }
+    ensures { Guards s.now at deep nodes result }
+{
+    let next = steps::expect(s, at, Token::Return)?;
+    let c = nodes.saturating_sub(1);
+    Ok(Act::More(Open::Guarded(c), deep + 1, Part { next, nodes }))
+}
+
+// Behind `when`, which stands at a place, where so many were open.
+fn when_item(
+    s: &[u8],
+    place: usize,
+    at: usize,
+    deep: u16,
+    code: &mut [u16],
+    nodes: u16,
+) -> Result<Act, Refusal>
+    requires inside { at ≤ length s.now }
+    requires room { 4096 ≤ length code.old }
+    requires few { nodes ≤ 1025 }
+    ensures { Does 0 s.now at deep nodes code.old (λ k h. when_behind s.now place deep k h) result code.new }
+{
+    steps::check_depth(deep, place)?;
+    let part = conditions::condition(s, at, deep + 1, code, nodes)?;
+    body_item(s, part.next, deep, part.nodes)
+}
+
+// An item that is to be read, where so many are open.
+fn begin(s: &[u8], at: usize, deep: u16, code: &mut [u16], nodes: u16) -> Result<Act, Refusal>
+    requires inside { at ≤ length s.now }
+    requires room { 4096 ≤ length code.old }
+    requires few { nodes ≤ 1025 }
+    ensures { Does 0 s.now at deep nodes code.old (λ k h. item_at s.now k deep h) result code.new }
+{
+    let t = tokens::token_at(s, at);
+    match t.token {
+        Token::Number(_) => element_item(s, at, deep, nodes),
+        Token::For => bound_item(s, t.place, t.next, Binder::For, deep, nodes),
+        Token::Let => bound_item(s, t.place, t.next, Binder::Let, deep, nodes),
+        Token::When => when_item(s, t.place, t.next, deep, code, nodes),
+        Token::Opens => group_item(s, t.place, t.next, deep, code, nodes),
+        Token::Hash => text_item(s, t.next, code, nodes),
+        Token::Dollar => variable_item(s, at, code, nodes),
+        _ => Err(Refusal {
+            reason: Reason::NoSuchText,
+            place: t.place,
+        }),
     }
-    if kind == 6 {
-        return bound_item(s, place, t.next, 6, 24, deep, nodes);
-    }
-    if kind == 7 {
-        return when_item(s, place, t.next, deep, code, nodes);
-    }
-    if kind == 15 {
-        return group_item(s, place, t.next, deep, code, nodes);
-    }
-    if kind == 20 {
-        return text_item(s, t.next, code, nodes);
-    }
-    if kind == 21 {
-        return variable_item(s, at, code, nodes);
-    }
-    Act::Refused { number: 22, place }
 }
 
 // Behind an item that commas may follow, where so many are open. Beyond 1,024 nodes the first part of a pair is not kept.
 fn go_tail(s: &[u8], at: usize, deep: u16, nodes: u16) -> Act
     requires { at ≤ length s.now }
-    ensures { (code : List ℕ) (b : ℕ) → Goes s.now at 1 deep b nodes code result code }
+    ensures { (code : List ℕ) → Goes s.now at (Opens.Open.Tail deep) nodes code (Ok result) code }
 {
     let t = tokens::token_at(s, at);
-    let next = t.next;
-    let token = t.token;
-    if tokens::kind_of(token) != 19 {
-        return Act::Done { next: at, nodes };
-    }
-    let too_many = 1024 < nodes;
-    if too_many {
-        return Act::Again { deep, next };
-    }
-    let a = last(nodes);
-    Act::More {
-        kind: 2,
-        a,
-        b: 0,
-        deep,
-        next,
-        nodes,
+    match t.token {
+        Token::Comma => {
+            let too_many = 1024 < nodes;
+            if too_many {
+                return Act::Again(deep, t.next);
+            }
+            let m = nodes.saturating_sub(1);
+            let part = Part {
+                next: t.next,
+                nodes,
+            };
+            Act::More(Open::Second(m), deep, part)
+        }
+        _ => Act::Done(Part { next: at, nodes }),
     }
 }
 
 // Behind the query in parentheses.
-fn go_group(s: &[u8], at: usize, nodes: u16) -> Act
+fn go_group(s: &[u8], at: usize, nodes: u16) -> Result<Act, Refusal>
     requires { at ≤ length s.now }
-    ensures { (code : List ℕ) (a b : ℕ) → Goes s.now at 3 a b nodes code result code }
+    ensures { (code : List ℕ) → Goes s.now at Opens.Open.Group nodes code result code }
 {
-    match steps::expect(s, at, 16) {
-        Went::Refused { number, place } => Act::Refused { number, place },
-        Went::To(next) => Act::Done { next, nodes },
-    }
+    let next = steps::expect(s, at, Token::Closes)?;
+    Ok(Act::Done(Part { next, nodes }))
 }
 
 // Behind the query in the brackets of a label.
-fn go_inside(s: &[u8], at: usize, l: u16, code: &mut [u16], nodes: u16) -> Act
-    requires fact_1 { at ≤ length s.now }
-    requires fact_2 { 4096 ≤ length code.old }
-    requires fact_3 { nodes ≤ 1025 }
-    ensures { (b : ℕ) → Goes s.now at 4 l b nodes code.old result code.new }
+fn go_inside(s: &[u8], at: usize, l: u16, code: &mut [u16], nodes: u16) -> Result<Act, Refusal>
+    requires inside { at ≤ length s.now }
+    requires room { 4096 ≤ length code.old }
+    requires few { nodes ≤ 1025 }
+    ensures { Goes s.now at (Opens.Open.Inside l) nodes code.old result code.new }
 {
-    match steps::expect(s, at, 18) {
-        Went::Refused { number, place } => Act::Refused { number, place },
-        Went::To(next) => {
-            let q = last(nodes);
-            made(code, nodes, 34, l, q, 0, next)
-        }
+    let next = steps::expect(s, at, Token::Outside)?;
+    let q = nodes.saturating_sub(1);
+    Ok(made(code, nodes, Query::Element(l, q), next))
+}
+
+// Behind the source of a for or a let: `return`.
+fn go_source(
+    s: &[u8],
+    at: usize,
+    binder: Binder,
+    v: u16,
+    deep: u16,
+    nodes: u16,
+) -> Result<Act, Refusal>
+    requires { at ≤ length s.now }
+    ensures { (code : List ℕ) → Goes s.now at (Opens.Open.Source binder v deep) nodes code result code }
+{
+    let next = steps::expect(s, at, Token::Return)?;
+    let p = nodes.saturating_sub(1);
+    Ok(Act::More(Open::Body(binder, v, p), deep, Part { next, nodes }))
+}
+
+// What is open goes on behind the item that was made.
+fn go(s: &[u8], at: usize, top: Open, code: &mut [u16], nodes: u16) -> Result<Act, Refusal>
+    requires inside { at ≤ length s.now }
+    requires room { 4096 ≤ length code.old }
+    requires few { nodes ≤ 1025 }
+    ensures { Goes s.now at top nodes code.old result code.new }
+{
+    let q = nodes.saturating_sub(1);
+    match top {
+        Open::Tail(deep) => Ok(go_tail(s, at, deep, nodes)),
+        Open::Second(m) => Ok(made(code, nodes, Query::Pair(m, q), at)),
+        Open::Group => go_group(s, at, nodes),
+        Open::Inside(l) => go_inside(s, at, l, code, nodes),
+        Open::Source(binder, v, deep) => go_source(s, at, binder, v, deep, nodes),
+        Open::Body(binder, v, p) => Ok(made(code, nodes, binder.query(v, p, q), at)),
+        Open::Guarded(c) => Ok(made(code, nodes, Query::When(c, q), at)),
     }
 }
 
-// Behind the source of a for (5) or a let (6): `return`.
-fn go_source(s: &[u8], at: usize, kind: u16, v: u16, deep: u16, nodes: u16) -> Act
-    requires fact_1 { at ≤ length s.now }
-    requires fact_2 { 5 ≤ kind }
-    requires fact_3 { kind ≤ 6 }
-    ensures { (code : List ℕ) → Goes s.now at kind v deep nodes code result code }
+// One step: the item that is to be read, or what is open goes on.
+pub fn step(s: &[u8], at: usize, top: Task, code: &mut [u16], nodes: u16) -> Result<Act, Refusal>
+    requires inside { at ≤ length s.now }
+    requires room { 4096 ≤ length code.old }
+    requires few { nodes ≤ 1025 }
+    ensures { Steps s.now at top nodes code.old result code.new }
 {
-    match steps::expect(s, at, 5) {
-        Went::Refused { number, place } => Act::Refused { number, place },
-        Went::To(next) => {
-            let b = last(nodes);
-            Act::More {
-                kind: kind + 2,
-                a: v,
-                b,
-                deep,
-                next,
-                nodes,
-            }
-        }
+    match top {
+        Task::Item(deep) => begin(s, at, deep, code, nodes),
+        Task::Behind(x) => go(s, at, x, code, nodes),
     }
-}
-
-// A frame goes on behind the item that was made.
-fn go(s: &[u8], at: usize, top: Entry, code: &mut [u16], nodes: u16) -> Act
-    requires fact_1 { at ≤ length s.now }
-    requires fact_2 { 4096 ≤ length code.old }
-    requires fact_3 { nodes ≤ 1025 }
-    ensures { Goes s.now at top.kind top.a top.b nodes code.old result code.new }
-{
-    let kind = top.kind;
-    let a = top.a;
-    let b = top.b;
-    let q = last(nodes);
-    if kind == 1 {
-        return go_tail(s, at, a, nodes);
-    }
-    if kind == 2 {
-        return made(code, nodes, 35, a, q, 0, at);
-    }
-    if kind == 3 {
-        return go_group(s, at, nodes);
-    }
-    if kind == 4 {
-        return go_inside(s, at, a, code, nodes);
-    }
-    if kind == 5 {
-        return go_source(s, at, 5, a, b, nodes);
-    }
-    if kind == 6 {
-        return go_source(s, at, 6, a, b, nodes);
-    }
-    if kind == 7 {
-        return made(code, nodes, 39, a, b, q, at);
-    }
-    if kind == 8 {
-        return made(code, nodes, 40, a, b, q, at);
-    }
-    made(code, nodes, 41, a, q, 0, at)
-}
-
-// One step: the item that is to be read, or the frame that goes on.
-pub fn step(s: &[u8], at: usize, top: Entry, code: &mut [u16], nodes: u16) -> Act
-    requires fact_1 { at ≤ length s.now }
-    requires fact_2 { 4096 ≤ length code.old }
-    requires fact_3 { nodes ≤ 1025 }
-    ensures { Steps s.now at top.kind top.a top.b nodes code.old result code.new }
-{
-    if top.kind == 0 {
-        return begin(s, at, top.a, code, nodes);
-    }
-    go(s, at, top, code, nodes)
 }

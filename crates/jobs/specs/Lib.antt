@@ -1,2 +1,2 @@
--- What reading a job answers and leaves, in document 01's terms.
+-- What reading a job answers and leaves.
 pub mod Says

@@ -1,5 +1,7 @@
 -- A step of the walk grows the table, so that the types of the variables in scope stay among its entries.
 -- Assumes nothing.
+use Rattle.std.specs.Prelude as Std
+use Rattle.std.specs.Prelude.{Result}
 use mathlib.Core.Path.{◌≡◌, ap, sym, ◌∙◌, subst}
 use mathlib.Core.List.{List}
 use mathlib.Core.Option.{some}
@@ -23,12 +25,11 @@ use Rattle.words.specs.Tables.{table_of}
 use Rattle.words.proofs.Tables.{table_length}
 use Rattle.scope.specs.declared.Scope.{Scope}
 use Rattle.scope.specs.declared.Var.{Var}
-use Rattle.scope.specs.Shows.{slot_var, slot_of, var_of, bound}
-use Rattle.scope.proofs.Slots.{slot_says}
+use Rattle.scope.specs.Shows.{found, var_of, bound}
 use Rattle.conds.proofs.Told.{shown, shows_shown, shown_none}
-use Rattle.grow.specs.declared.Made.TheVariants as Made
+use Rattle.grow.specs.declared.Made.{Made}
 use Rattle.grow.proofs.Steps.{made, kept_count}
-use Rattle.leaves.specs.declared.Walked.{Walked}
+use Rattle.refusals.specs.declared.Refusal.{Refusal}
 use Rattle.leaves.specs.Walk.{Within, tabled, walked, Begins, Walks}
 
 ends_tabled : {D : Defs} {room : ℕ} {T : Table} {R : ℕ → ℕ → Type 0} {x : Out (State × ℕ)} → Ends (λ r. Grew D room T (r.0.types, r.1)) R x → Ends (Grew D room T) R (tabled x)
@@ -50,24 +51,25 @@ module _ {D : Defs} {ws cs : List ℕ} {count : ℕ} {s : Scope} (b : Begins D w
       ends_tabled
       (type_ends (type_capacity (length ws)) D (omega arith) (λ _. Unit {0}) q (shown s) (record { types = table_of ws count }) b.ready.formed (omega (arith, b.ready.lent.fits, table_length ws count)) (shown_scoped s (table_of ws count) (table_length ws count) b.within) labels nodes)
 
-  pub walk_grew : {us ds : List ℕ} {r : Walked} {l m : ℕ} → r.made ≡ Made.Entry l m → Walks D ws us cs ds count q s r → Grew D (type_capacity (length ws)) (table_of ws count) (table_of us m, l)
+  pub walk_grew : {us ds : List ℕ} {r : Result Made Refusal} {m : Made} → r ≡ Std.Ok m → Walks D ws us cs ds count q s r → Grew D (type_capacity (length ws)) (table_of ws count) (table_of us m.count, m.at)
   walk_grew p h = made walk_ends p (h.is (shown s) (shows_shown s))
 
-  pub walk_count : {us ds : List ℕ} {r : Walked} {l m : ℕ} → r.made ≡ Made.Entry l m → Walks D ws us cs ds count q s r → count ≤ m
-  walk_count {us} {m = m} p h = kept_count ws us count m (walk_grew p h).grows
+  pub walk_count : {us ds : List ℕ} {r : Result Made Refusal} {m : Made} → r ≡ Std.Ok m → Walks D ws us cs ds count q s r → count ≤ m.count
+  walk_count {us} {m = m} p h = kept_count ws us count m.count (walk_grew p h).grows
 
 -- more entries
 pub within_more : {s : Scope} {n m : ℕ} → n ≤ m → Within s n → Within s m
 within_more l w = record { wide = w.wide; low = λ v x k e. omega (arith, l, w.low v x k e) }
 
 -- one more variable, of a type among the entries
-pub within_bind : {s : Scope} {n v : ℕ} (x : Var) (y : Records.Var) → var_of x ≡ some y → type_in y < n → v < 64 → Within s n → Within (bound s v (slot_of x)) n
-within_bind {s} {n} {v} x y e l k w =
-    record { wide = length-set s.slots v (slot_of x) ∙ w.wide; low = λ i z j f. go i z j f (ℕ_discrete i v) }
+pub within_bind : {s : Scope} {n v : ℕ} (x : Var) → type_in (var_of x) < n → v < 64 → Within s n → Within (bound s v (Std.Some x)) n
+within_bind {s} {n} {v} x l k w =
+    record { wide = length-set s.slots v (Std.Some x) ∙ w.wide; low = λ i z j f. go i z j f (ℕ_discrete i v) }
   where
-    go : (i : ℕ) (z : Records.Var) → i < 64 → slot_var (get_or (set s.slots v (slot_of x)) i 0) ≡ some z → Dec (i ≡ v) → type_in z < n
+    go : (i : ℕ) (z : Records.Var) → i < 64 → found (get_or (set s.slots v (Std.Some x)) i Std.None) ≡ some z → Dec (i ≡ v) → type_in z < n
     go i z j f (yes p) =
-        let same : some y ≡ some z = sym (slot_says x ∙ e) ∙ sym (ap slot_var (rw p (get_or-set_same s.slots v (slot_of x) 0 (omega (arith, w.wide))))) ∙ f in
-        let q : y ≡ z = cc in
+        let here : get_or (set s.slots v (Std.Some x)) i Std.None ≡ Std.Some x = rw p (get_or-set_same s.slots v (Std.Some x) Std.None (omega (arith, w.wide))) in
+        let same : some (var_of x) ≡ some z = sym (ap found here) ∙ f in
+        let q : var_of x ≡ z = cc in
         subst (λ (u : Records.Var). type_in u < n) q l
-    go i z j f (no p) = w.low i z j (sym (ap slot_var (get_or-set_other s.slots v i (slot_of x) 0 p)) ∙ f)
+    go i z j f (no p) = w.low i z j (sym (ap found (get_or-set_other s.slots v i (Std.Some x) Std.None p)) ∙ f)

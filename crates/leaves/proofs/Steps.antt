@@ -1,6 +1,8 @@
 -- The walk of a query without parts: what it answers by what is found in the scope, and that the code's answer is that.
 -- Assumes nothing.
-use mathlib.Core.Path.{◌≡◌, refl, sym, ap, subst, ◌∙◌}
+use Rattle.std.specs.Prelude as Std
+use Rattle.std.specs.Prelude.{Result}
+use mathlib.Core.Path.{◌≡◌, refl, sym, ap, ◌∙◌}
 use mathlib.Core.List.{List}
 use mathlib.Core.Option.{Option, none, some}
 use Prim.Native.Nat.{ℕ, ◌≤◌, ◌<◌}
@@ -18,13 +20,14 @@ use Rattle.meaning.specs.Typing.{State, leaving, on_types, lookup, tree_type, ty
 use Rattle.words.specs.Tables.{table_of}
 use Rattle.words.proofs.Tables.{table_length}
 use Rattle.scope.specs.declared.Scope.{Scope}
-use Rattle.conds.specs.Says.{found, Answers}
-use Rattle.conds.specs.declared.Found.{Found}
-use Rattle.conds.proofs.Told.{shown, shows_shown, variable_found, tree_found, entry_told, found_refused}
-use Rattle.grow.specs.Grow.{Ready, Left}
+use Rattle.refusals.specs.declared.Refusal.{Refusal}
+use Rattle.refusals.specs.Says.{number_of}
+use Rattle.conds.specs.Says.{Answers}
+use Rattle.conds.proofs.Told.{shown, shows_shown, variable_found, tree_found}
+use Rattle.grow.specs.Grow.{Left}
 use Rattle.grow.specs.declared.Made.{Made}
 use Rattle.grow.proofs.Steps.{left_here}
-use Rattle.leaves.specs.Walk.{tabled, walked, Begins, Walks, entered}
+use Rattle.leaves.specs.Walk.{tabled, walked, Begins, Walks}
 
 -- A RULE on the type table is the same rule as a step of the walk
 pub tabled_leaving : (s : State) (x : Out (Table × ℕ)) → tabled (leaving s x) ≡ x
@@ -83,71 +86,70 @@ module _ (room : ℕ) (D : Defs) (n : ℕ) (g : Typing.Scope) (T : Table) where
     dos_refused p = tree_refused (dos_rule room n D w) T p
 
 -- WHAT IS LEFT, by the answer's equation
-pub left_as : {D : Defs} {ws us cs ds : List ℕ} {r : Made} {x y : Out (Table × ℕ)} → Left D ws us cs ds r x → x ≡ y → Left D ws us cs ds r y
+pub left_as : {D : Defs} {ws us cs ds : List ℕ} {r : Result Made Refusal} {x y : Out (Table × ℕ)} → Left D ws us cs ds r x → x ≡ y → Left D ws us cs ds r y
 left_as g q = record { answer = g.answer ∙ q; long = g.long; longs = g.longs; ready = g.ready }
 
-pub left_refused : {D : Defs} {ws cs : List ℕ} {k place : ℕ} {y : Out (Table × ℕ)} → y ≡ refused k place → Left D ws ws cs cs (Made.Refused k place) y
+pub left_refused : {D : Defs} {ws cs : List ℕ} {r : Refusal} {y : Out (Table × ℕ)} → y ≡ refused (number_of r.reason) r.place → Left D ws ws cs cs (Std.Err r) y
 left_refused q = record { answer = sym q; long = refl; longs = refl; ready = tt }
 
 -- () AND TEXT: entries 0 and 1 are there
 module _ {D : Defs} {ws cs : List ℕ} {count : ℕ} {s : Scope} (n : ℕ) (B : Begins D ws cs count s) where
-  pub nothing_walks : Walks D ws ws cs cs count (Queries.nothing n) s (record { made = Made.Entry 0 count; scope = s })
+  pub nothing_walks : Walks D ws ws cs cs count (Queries.nothing n) s (Std.Ok (record { at = 0; count = count }))
   nothing_walks =
       let R = B.ready in
       let low : 0 < count = omega (arith, R.formed.two, table_length ws count) in
-      record { kept = refl; is = λ g h. left_as (left_here R low) (sym (walked_nothing (type_capacity (length ws)) D n g (table_of ws count))) }
+      record { is = λ g h. left_as (left_here R low) (sym (walked_nothing (type_capacity (length ws)) D n g (table_of ws count))) }
 
-  pub text_walks : (t : ℕ) → Walks D ws ws cs cs count (Queries.text n t) s (record { made = Made.Entry 1 count; scope = s })
+  pub text_walks : (t : ℕ) → Walks D ws ws cs cs count (Queries.text n t) s (Std.Ok (record { at = 1; count = count }))
   text_walks t =
       let R = B.ready in
       let low : 1 < count = omega (arith, R.formed.two, table_length ws count) in
-      record { kept = refl; is = λ g h. left_as (left_here R low) (sym (walked_text (type_capacity (length ws)) D n g (table_of ws count) t)) }
+      record { is = λ g h. left_as (left_here R low) (sym (walked_text (type_capacity (length ws)) D n g (table_of ws count) t)) }
 
 -- A VARIABLE: an entry that is found in the scope is one of the table
-module _ {D : Defs} {ws cs : List ℕ} {count : ℕ} {s t : Scope} (n v : ℕ) (B : Begins D ws cs count s) (l : v ≤ 63) (x : Found) where
-  pub variable_low : {e : ℕ} → x ≡ Found.Entry e → Answers s t (found x) (λ g. Base.◌>>=◌ (lookup n g v) (λ y. ok (type_in y))) → e < count
-  variable_low {e} k a =
+module _ {D : Defs} {ws cs : List ℕ} {count : ℕ} {s : Scope} (n v : ℕ) (B : Begins D ws cs count s) (l : v ≤ 63) where
+  variable_low : {e : ℕ} → Answers s (ok e) (λ g. Base.◌>>=◌ (lookup n g v) (λ y. ok (type_in y))) → e < count
+  variable_low {e} a =
       let low : v < 64 = omega arith in
-      let y = variable_found n v (shown s) x k a (shows_shown s) in
+      let y = variable_found n v (shown s) a (shows_shown s) in
       let m : type_in y.0 < count = B.within.low v y.0 low (shows_shown s v low ∙ y.1.0) in
       omega (arith, y.1.1)
 
-  pub tree_low : {e : ℕ} → x ≡ Found.Entry e → Answers s t (found x) (λ g. tree_type n g v) → e < count
-  tree_low {e} k a =
+  pub tree_low : {e : ℕ} → Answers s (ok e) (λ g. tree_type n g v) → e < count
+  tree_low {e} a =
       let low : v < 64 = omega arith in
-      B.within.low v (Records.tree e) low (shows_shown s v low ∙ tree_found n v (shown s) x k a (shows_shown s))
+      B.within.low v (Records.tree e) low (shows_shown s v low ∙ tree_found n v (shown s) a (shows_shown s))
 
-entered_left : {D : Defs} {ws cs : List ℕ} {count : ℕ} (x : Found) → Ready D ws cs count → ((e : ℕ) → x ≡ Found.Entry e → e < count) → Left D ws ws cs cs (entered x count) (here (table_of ws count) (found x))
-entered_left (Found.Entry e) R low = left_here R (low e refl)
-entered_left (Found.Refused k place) R low = left_refused refl
+  pub variable_walks : {e i : ℕ} → Answers s (ok e) (λ g. Base.◌>>=◌ (lookup n g v) (λ y. ok (type_in y))) → i ≡ e → Walks D ws ws cs cs count (Queries.variable n v) s (Std.Ok (record { at = i; count = count }))
+  variable_walks {e} {i} a p =
+      let T = table_of ws count in
+      let low : i < count = omega (arith, p, variable_low a) in
+      record { is = λ g h. left_as (left_here B.ready low) (ap (λ (j : ℕ). ok (T, j)) p ∙ ap (here T) (a.is g h) ∙ sym (walked_variable (type_capacity (length ws)) D n g T v)) }
 
-pub variable_walks : {D : Defs} {ws cs : List ℕ} {count : ℕ} {s t : Scope} (n v : ℕ) (x : Found) {m : Made} → v ≤ 63
-    → Answers s t (found x) (λ g. Base.◌>>=◌ (lookup n g v) (λ y. ok (type_in y))) → m ≡ entered x count → Begins D ws cs count s
-    → Walks D ws ws cs cs count (Queries.variable n v) s (record { made = m; scope = t })
-variable_walks {D} {ws} {cs} {count} {s} n v x {m} l a p B =
+pub variable_stops : {D : Defs} {ws cs : List ℕ} {count : ℕ} {s : Scope} (n v : ℕ) {r : Refusal} → Answers s (refused (number_of r.reason) r.place) (λ g. Base.◌>>=◌ (lookup n g v) (λ y. ok (type_in y)))
+    → Walks D ws ws cs cs count (Queries.variable n v) s (Std.Err r)
+variable_stops {D} {ws} {cs} {count} n v a =
     let T = table_of ws count in
-    let left : Left D ws ws cs cs m (here T (found x)) = subst (λ (o : Made). Left D ws ws cs cs o (here T (found x))) (sym p) (entered_left x B.ready (λ e k. variable_low n v B l x k a)) in
-    record { kept = a.kept; is = λ g h. left_as left (ap (here T) (a.is g h) ∙ sym (walked_variable (type_capacity (length ws)) D n g T v)) }
+    record { is = λ g h. left_refused (walked_variable (type_capacity (length ws)) D n g T v ∙ ap (here T) (sym (a.is g h))) }
 
 -- CHILD AND DOS: the refusal, or the rule for the entry
-module _ {D : Defs} {ws cs : List ℕ} (count : ℕ) {s t : Scope} (n v w : ℕ) (x : Found) (a : Answers s t (found x) (λ g. tree_type n g v)) where
-  pub child_stops : {k place : ℕ} → x ≡ Found.Refused k place → Walks D ws ws cs cs count (Queries.child n v w) s (record { made = Made.Refused k place; scope = t })
-  child_stops k =
-      record { kept = a.kept; is = λ g h. left_refused (child_refused (type_capacity (length ws)) D n g (table_of ws count) v w (found_refused h x a k)) }
+module _ {D : Defs} {ws cs : List ℕ} (count : ℕ) {s : Scope} (n v w : ℕ) where
+  module _ {r : Refusal} (a : Answers s (refused (number_of r.reason) r.place) (λ g. tree_type n g v)) where
+    pub child_stops : Walks D ws ws cs cs count (Queries.child n v w) s (Std.Err r)
+    child_stops = record { is = λ g h. left_refused (child_refused (type_capacity (length ws)) D n g (table_of ws count) v w (sym (a.is g h))) }
 
-  pub dos_stops : {k place : ℕ} → x ≡ Found.Refused k place → Walks D ws ws cs cs count (Queries.dos n v w) s (record { made = Made.Refused k place; scope = t })
-  dos_stops k =
-      record { kept = a.kept; is = λ g h. left_refused (dos_refused (type_capacity (length ws)) D n g (table_of ws count) v w (found_refused h x a k)) }
+    pub dos_stops : Walks D ws ws cs cs count (Queries.dos n v w) s (Std.Err r)
+    dos_stops = record { is = λ g h. left_refused (dos_refused (type_capacity (length ws)) D n g (table_of ws count) v w (sym (a.is g h))) }
 
-  module _ {us ds : List ℕ} {e i : ℕ} {r : Made} (k : x ≡ Found.Entry e) (p : i ≡ e) where
-    pub child_walks : Left D ws us cs ds r (child_rule (type_capacity (length ws)) n D w i (table_of ws count)) → Walks D ws us cs ds count (Queries.child n v w) s (record { made = r; scope = t })
+  module _ {us ds : List ℕ} {e i : ℕ} {r : Result Made Refusal} (a : Answers s (ok e) (λ g. tree_type n g v)) (p : i ≡ e) where
+    pub child_walks : Left D ws us cs ds r (child_rule (type_capacity (length ws)) n D w i (table_of ws count)) → Walks D ws us cs ds count (Queries.child n v w) s r
     child_walks left =
         let room = type_capacity (length ws) in
         let T = table_of ws count in
-        record { kept = a.kept; is = λ g h. left_as left (ap (λ (j : ℕ). child_rule room n D w j T) p ∙ sym (walked_child room D n g T v w (entry_told h x a k))) }
+        record { is = λ g h. left_as left (ap (λ (j : ℕ). child_rule room n D w j T) p ∙ sym (walked_child room D n g T v w (sym (a.is g h)))) }
 
-    pub dos_walks : Left D ws us cs ds r (dos_rule (type_capacity (length ws)) n D w i (table_of ws count)) → Walks D ws us cs ds count (Queries.dos n v w) s (record { made = r; scope = t })
+    pub dos_walks : Left D ws us cs ds r (dos_rule (type_capacity (length ws)) n D w i (table_of ws count)) → Walks D ws us cs ds count (Queries.dos n v w) s r
     dos_walks left =
         let room = type_capacity (length ws) in
         let T = table_of ws count in
-        record { kept = a.kept; is = λ g h. left_as left (ap (λ (j : ℕ). dos_rule room n D w j T) p ∙ sym (walked_dos room D n g T v w (entry_told h x a k))) }
+        record { is = λ g h. left_as left (ap (λ (j : ℕ). dos_rule room n D w j T) p ∙ sym (walked_dos room D n g T v w (sym (a.is g h)))) }

@@ -1,6 +1,6 @@
 -- A step of the typing walk: what it is given, what it answers, and the walk as a rule on the type table.
 -- Assumes nothing.
-use Rattle.std.specs.Prelude.{◌≡◌, List, ℕ, ◌<◌, length, get_or}
+use Rattle.std.specs.Prelude.{◌≡◌, List, ℕ, ◌<◌, length, get_or, Result, None}
 use Rattle.std.proofs.Math.Option.{some}
 use Rattle.meaning.specs.Base.{Out, ok, refused, type_capacity}
 use Rattle.meaning.specs.Types.{Table, Defs}
@@ -10,18 +10,17 @@ use Rattle.meaning.specs.Queries.{Query}
 use Rattle.meaning.specs.Rules.{Rule}
 use Rattle.meaning.specs.Typing as Typing
 use Rattle.meaning.specs.Typing.{State, type_of}
+use Rattle.refusals.specs.declared.Refusal.{Refusal}
 use Rattle.words.specs.Tables.{table_of}
 use Rattle.scope.specs.declared.Scope.{Scope}
-use Rattle.scope.specs.Shows.{slot_var, Shows}
-use Rattle.conds.specs.declared.Found.{Found}
+use Rattle.scope.specs.Shows.{found, Shows}
 use Rattle.grow.specs.Grow.{Ready, Left}
 use Rattle.grow.specs.declared.Made.{Made}
-use Rattle.leaves.specs.declared.Walked.{Walked}
 
--- a scope of 64 words, in which each variable has its type among the first n entries
+-- a scope of 64 places, in which each variable has its type among the first n entries
 pub record Within (s : Scope) (n : ℕ) : Type 0 where
   pub wide : length s.slots ≡ 64
-  pub low : (v : ℕ) (x : Records.Var) → v < 64 → slot_var (get_or s.slots v 0) ≡ some x → type_in x < n
+  pub low : (v : ℕ) (x : Records.Var) → v < 64 → found (get_or s.slots v None) ≡ some x → type_in x < n
 
 -- a step of the walk as a rule on the type table, which is all of its state
 abbrev pub tabled : Out (State × ℕ) → Out (Table × ℕ)
@@ -37,12 +36,6 @@ pub record Begins (D : Defs) (types classes : List ℕ) (count : ℕ) (s : Scope
   pub ready : Ready D types classes count
   pub within : Within s count
 
--- WHAT IT LEAVES: the scope as it was, and what the query's walk leaves in every scope that this one shows
-pub record Walks (D : Defs) (ws us cs ds : List ℕ) (count : ℕ) (q : Query) (s : Scope) (r : Walked) : Type 0 where
-  pub kept : r.scope ≡ s
-  pub is : (g : Typing.Scope) → Shows s g → Left D ws us cs ds r.made (walked (type_capacity (length ws)) D q g (table_of ws count))
-
--- what was found in a scope, as an answer: an entry of a table of so many, or a refusal
-abbrev pub entered : Found → ℕ → Made
-entered (Found.Entry e) count = Made.Entry e count
-entered (Found.Refused n place) count = Made.Refused n place
+-- WHAT IT LEAVES: what the query's walk leaves in every scope that this one shows
+pub record Walks (D : Defs) (ws us cs ds : List ℕ) (count : ℕ) (q : Query) (s : Scope) (r : Result Made Refusal) : Type 0 where
+  pub is : (g : Typing.Scope) → Shows s g → Left D ws us cs ds r (walked (type_capacity (length ws)) D q g (table_of ws count))

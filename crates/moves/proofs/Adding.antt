@@ -1,19 +1,19 @@
--- An element's entry, and bodies moved down.
+-- An element's entry, words held behind others, and bodies moved down.
 -- Assumes nothing.
 use mathlib.Core.Path.{◌≡◌, sym, ap, ◌∙◌}
 use mathlib.Core.List.{List, [], ◌∷◌, ◌++◌, append-nil}
 use Prim.Native.Nat.{ℕ, ◌+◌, ◌*◌, ◌-◌, ◌≤◌}
 use native.Mathlib.Omega.{arith}
-use lib.ListN.{length, take, drop}
-use lib.Seq.{take_at, drop_at, drop-drop}
+use native.Mathlib.Nat.{zero-add}
+use lib.ListN.{length, take, drop, length-drop}
+use lib.Seq.{paste, take-paste, drop-paste, drop-drop}
 use Rattle.meaning.specs.Base.{zeros}
 use Rattle.meaning.specs.Forests.{Forest, end, tree, size, forest_words}
 use Rattle.words.specs.Tables.{stored}
 use Rattle.copies.specs.Fills.{Filled}
-use Rattle.copies.proofs.Lent.{zeros_append}
+use Rattle.copies.proofs.Lent.{zeros_append, lent, back}
 use Rattle.copies.proofs.Filling.{filled_front, filled_blank}
 use Rattle.moves.specs.Moves.{Wraps, Moves}
-use Rattle.moves.proofs.Shifting.{moved, moved_length}
 
 -- AN ELEMENT'S ENTRY
 wrapped : (ws us : List ℕ) (l k : ℕ) (f : Forest) → 3 * (1 + k) ≤ length ws → us ≡ stored ws (3 * 0) (65 ∷ l ∷ k ∷ []) → Filled (length ws - 3) (drop 3 ws) k f → Filled (length ws) us (1 + k) (tree l f end)
@@ -34,20 +34,25 @@ wrapped ws us l k f fits e h =
 pub wraps : (ws us : List ℕ) (l k : ℕ) → 3 * (1 + k) ≤ length ws → us ≡ stored ws (3 * 0) (65 ∷ l ∷ k ∷ []) → Wraps ws us l k
 wraps ws us l k fits s = record { is = λ f h. wrapped ws us l k f fits s h }
 
+-- WORDS HELD: stored at the front of a part that is lent
+pub stored_behind : (t : List ℕ) (at : ℕ) (ws ys : List ℕ) → ys ≡ stored (take (length t - at) (drop at t)) 0 ws → take at t ++ (ys ++ drop (length t - at) (drop at t)) ≡ stored t at ws
+unfolding stored
+stored_behind t at ws ys e =
+    back at t ys
+    ∙ ap (λ (l : List ℕ). take at t ++ l) (e ∙ ap (λ (l : List ℕ). ws ++ drop (0 + length ws) l) (lent at t))
+    ∙ ap (λ (k : ℕ). take at t ++ (ws ++ drop k (drop at t))) (zero-add (length ws))
+    ∙ ap (λ (l : List ℕ). take at t ++ (ws ++ l)) (drop-drop (length ws) at t)
+
 -- BODIES MOVED DOWN: the words that were moved, and then zeros up to where they ended
-module _ (ws xs us : List ℕ) (k m : ℕ) (g : Forest) (fits : 3 * (k + m) ≤ length ws) (shifted : xs ≡ stored ws 0 (moved (3 * k) (3 * m) ws)) (h : Filled (length ws - 3 * k) (drop (3 * k) ws) m g) where
-  body_length : length (moved (3 * k) (3 * m) ws) ≡ 3 * m
-  body_length = moved_length (3 * k) (3 * m) ws (omega arith)
+module _ (ws xs us : List ℕ) (k m : ℕ) (g : Forest) (fits : 3 * (k + m) ≤ length ws) (shifted : xs ≡ paste ws 0 (drop (3 * k) ws) (3 * m)) (h : Filled (length ws - 3 * k) (drop (3 * k) ws) m g) where
+  long : 3 * m ≤ length (drop (3 * k) ws)
+  long = omega (arith, length-drop (3 * k) ws)
 
   front_is : take (3 * m) xs ≡ forest_words g
-  unfolding stored
-  front_is = ap (λ (x : List ℕ). take (3 * m) x) shifted ∙ take_at (moved (3 * k) (3 * m) ws) (drop (0 + length (moved (3 * k) (3 * m) ws)) ws) (3 * m) body_length ∙ filled_front h
+  front_is = ap (λ (x : List ℕ). take (3 * m) x) shifted ∙ ap (λ (n : ℕ). take n (paste ws 0 (drop (3 * k) ws) (3 * m))) (sym (zero-add (3 * m))) ∙ take-paste ws 0 (drop (3 * k) ws) (3 * m) (omega arith) long ∙ filled_front h
 
   behind_is : drop (3 * m) xs ≡ drop (3 * m) ws
-  unfolding stored
-  behind_is =
-      let z : 0 + length (moved (3 * k) (3 * m) ws) ≡ 3 * m = omega (arith, body_length) in
-      ap (λ (x : List ℕ). drop (3 * m) x) shifted ∙ drop_at (moved (3 * k) (3 * m) ws) (drop (0 + length (moved (3 * k) (3 * m) ws)) ws) (3 * m) body_length ∙ ap (λ (n : ℕ). drop n ws) z
+  behind_is = ap (λ (x : List ℕ). drop (3 * m) x) shifted ∙ ap (λ (n : ℕ). drop n (paste ws 0 (drop (3 * k) ws) (3 * m))) (sym (zero-add (3 * m))) ∙ drop-paste ws 0 (drop (3 * k) ws) (3 * m) (omega arith) long ∙ ap (λ (n : ℕ). drop n ws) (zero-add (3 * m))
 
   last_is : drop (3 * (k + m) - 3 * m) (drop (3 * m) xs) ≡ zeros (length ws - 3 * k - 3 * m)
   last_is =
@@ -68,5 +73,7 @@ module _ (ws xs us : List ℕ) (k m : ℕ) (g : Forest) (fits : 3 * (k + m) ≤ 
             ∙ ap (λ (x : List ℕ). forest_words g ++ x) (zeros_append (3 * k) (length ws - 3 * k - 3 * m) ∙ ap zeros z);
       }
 
-pub moves : (ws us : List ℕ) (k m : ℕ) {xs ys : List ℕ} (n : ℕ) → 3 * (k + m) ≤ length ws → xs ≡ stored ws 0 (moved (3 * k) (3 * m) ws) → ys ≡ zeros n → n ≡ 3 * k → us ≡ take (3 * m) xs ++ (ys ++ drop (3 * (k + m) - 3 * m) (drop (3 * m) xs)) → Moves ws us k m
-moves ws us k m {xs} n fits x y p s = record { is = λ g h. moved_down ws xs us k m g fits x h n y p s }
+pub moves : (ws us : List ℕ) (k m : ℕ) {xs ys : List ℕ} (n : ℕ) → 3 * (k + m) ≤ length ws → xs ≡ paste ws 0 (drop (3 * k) ws) (3 * k + 3 * m - 3 * k) → ys ≡ zeros n → n ≡ 3 * k → us ≡ take (3 * m) xs ++ (ys ++ drop (3 * (k + m) - 3 * m) (drop (3 * m) xs)) → Moves ws us k m
+moves ws us k m {xs} n fits x y p s =
+    let count : 3 * k + 3 * m - 3 * k ≡ 3 * m = omega arith in
+    record { is = λ g h. moved_down ws xs us k m g fits (x ∙ ap (λ (j : ℕ). paste ws 0 (drop (3 * k) ws) j) count) h n y p s }

@@ -1,3 +1,2 @@
 -- Laws of what queries add to their parts.
-pub mod Shifting
 pub mod Adding

@@ -20,21 +20,8 @@ pub fn hold(rest: &[u16], k: usize, held: &mut [u16], at: usize)
     requires { (3 * k ≤ length rest.now) × (3 * at + 3 * k ≤ length held.old) }
     ensures { held.new ≡ stored held.old (3 * at) (take (3 * k) rest.now) }
 {
-    let to = 3 * k;
     let from = 3 * at;
-    words::copy(&rest[..to], &mut held[from..]);
-}
-
-// So many words from a place on, moved to the front.
-fn shift(rest: &mut [u16], from: usize, count: usize)
-    requires { from + count ≤ length rest.old }
-    ensures { rest.new ≡ stored rest.old 0 (take count (drop from rest.old)) }
-{
-    let mut i = 0;
-    while i < count {
-        rest[i] = rest[from + i];
-        i += 1;
-    }
+    words::copy(&rest[..3 * k], &mut held[from..]);
 }
 
 // Bodies of m entries that stand behind a source of k entries, moved down over it.
@@ -42,8 +29,9 @@ pub fn down(rest: &mut [u16], k: usize, m: usize)
     requires { Room (length rest.old) k m }
     ensures { Moves rest.old rest.new k m }
 {
+    let start = 3 * k;
     let count = 3 * m;
-    shift(rest, 3 * k, count);
+    rest.copy_within(start..start + count, 0);
     let end = 3 * (k + m);
     words::clear(&mut rest[count..end]);
 }

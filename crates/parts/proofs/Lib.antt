@@ -1,3 +1,3 @@
--- Laws of a lent stack of parts.
+-- Laws of parts.
 pub mod Pushing
 pub mod Nodes

@@ -1,290 +1,198 @@
 // The parts that the text of a query is made of, on a lent stack: a query or a condition gives way to its parts, the first one on top.
 #![tactic(auto)]
 
-ghost use Rattle.std.specs.Prelude.{◌≡◌, List, [], ◌∷◌, ℕ, ◌+◌, ◌*◌, ◌≤◌, ◌<◌, length};
+ghost use Rattle.std.specs.Prelude.{◌≡◌, List, [], ◌∷◌, ℕ, ◌+◌, ◌≤◌, ◌<◌, length};
 ghost use Rattle.meaning.specs.Records.{Node};
 ghost use Rattle.meaning.specs.Queries.{cond_at, query_at};
-ghost use Rattle.words.specs.Tables.{code_of};
-ghost use Rattle.uses.specs.Counts.{Coded};
+ghost use Rattle.meaning.specs.Written.{of_test};
+ghost use Rattle.uses.specs.Counts.{Lowers};
 ghost use Rattle.queries.specs.Says.{query_of};
 ghost use Rattle.conds.specs.Says.{cond_of};
 ghost use Rattle.parts.specs.Items as Items;
-ghost use Rattle.parts.specs.Stacks.{item_of, Pushes, Grown};
+ghost use Rattle.parts.specs.Stacks.{item_of, Pushed, Grown, Inside};
 
 use conds::Cond;
 use queries::Query;
+use tables::Nodes;
 
-// One part more; how many there are then.
-pub fn push(stack: &mut [u16], top: usize, kind: u16, a: u16, b: u16) -> usize
-    requires { 3 * top + 3 ≤ length stack.old }
-    ensures { Pushes 1 stack.old top stack.new result (λ C. item_of C kind a b ∷ []) }
-{
-    words::put_entry(stack, top, kind, a, b);
-    top + 1
+// A piece by its number and its value; a query, where there may be many items or one, and a condition: how many are open around it, and its node.
+#[derive(Clone, Copy)]
+pub enum Part {
+    Piece(u16, u16),
+    Query(bool, u16, u16),
+    Cond(u16, u16),
 }
 
-// A sign and a number.
-fn push_number(stack: &mut [u16], top: usize, sign: u16, n: u16) -> usize
-    requires fact_1 { 3 * top + 6 ≤ length stack.old }
-    requires fact_2 { sign < 30 }
-    ensures { Pushes 2 stack.old top stack.new result (λ C. Items.sign sign ∷ Items.number n ∷ []) }
+// A word or a sign.
+fn sign(kind: u16) -> Part
+    ensures { result ≡ Part.Piece kind 0 }
 {
-    let next = push(stack, top, 2, n, 0);
-    push(stack, next, sign, 0, 0)
+    Part::Piece(kind, 0)
+}
+
+// A decimal number.
+fn number(n: u16) -> Part
+    ensures { result ≡ Part.Piece 2 n }
+{
+    Part::Piece(2, n)
 }
 
 // A test: 0 is `node`, 65535 is `text`.
-fn push_test(stack: &mut [u16], top: usize, w: u16) -> usize
-    requires { 3 * top + 3 ≤ length stack.old }
-    ensures { Pushes 1 stack.old top stack.new result (λ C. Items.test w ∷ []) }
+fn test(w: u16) -> Part
+    ensures { result ≡ Part.Piece (of_test w).0 (of_test w).1 }
 {
-    if w == 0 {
-        return push(stack, top, 13, 0, 0);
+    match w {
+        0 => sign(13),
+        65535 => sign(14),
+        _ => number(w),
     }
-    if w == 65535 {
-        return push(stack, top, 14, 0, 0);
-    }
-    push(stack, top, 2, w, 0)
 }
 
-// A variable, / or //, and a test.
-fn push_step(stack: &mut [u16], top: usize, v: u16, sign: u16, w: u16) -> usize
-    requires fact_1 { 3 * top + 12 ≤ length stack.old }
-    requires fact_2 { sign < 30 }
-    ensures { Pushes 4 stack.old top stack.new result (λ C. Items.sign 21 ∷ Items.number v ∷ Items.sign sign ∷ Items.test w ∷ []) }
+// Parts put on a stack, the first one on top; where the top is then.
+fn push(stack: &mut [Part], top: usize, parts: &[Part]) -> usize
+    requires room { length parts.now ≤ top }
+    requires inside { top ≤ length stack.old }
+    ensures { Pushed stack.old top stack.new result parts.now }
 {
-    let one = push_test(stack, top, w);
-    let two = push(stack, one, sign, 0, 0);
-    push_number(stack, two, 21, v)
-}
-
-// A label, and what is inside [ and ].
-fn push_element(stack: &mut [u16], top: usize, l: u16, q: u16, deep: u16) -> usize
-    requires { 3 * top + 12 ≤ length stack.old }
-    ensures { Pushes 4 stack.old top stack.new result (λ C. Items.number l ∷ Items.sign 17 ∷ Items.many deep (query_at C q) ∷ Items.sign 18 ∷ []) }
-{
-    let one = push(stack, top, 18, 0, 0);
-    let two = push(stack, one, 31, q, deep);
-    let three = push(stack, two, 17, 0, 0);
-    push(stack, three, 2, l, 0)
-}
-
-// Two queries with a comma between them.
-fn push_pair(stack: &mut [u16], top: usize, p: u16, q: u16, deep: u16) -> usize
-    requires { 3 * top + 9 ≤ length stack.old }
-    ensures { Pushes 3 stack.old top stack.new result (λ C. Items.one deep (query_at C p) ∷ Items.sign 19 ∷ Items.many deep (query_at C q) ∷ []) }
-{
-    let one = push(stack, top, 31, q, deep);
-    let two = push(stack, one, 19, 0, 0);
-    push(stack, two, 30, p, deep)
-}
-
-// The same in parentheses.
-fn push_group(stack: &mut [u16], top: usize, p: u16, q: u16, deep: u16) -> usize
-    requires { 3 * top + 15 ≤ length stack.old }
-    ensures { Pushes 5 stack.old top stack.new result (λ C. Items.sign 15 ∷ Items.one deep (query_at C p) ∷ Items.sign 19 ∷ Items.many deep (query_at C q) ∷ Items.sign 16 ∷ []) }
-{
-    let one = push(stack, top, 16, 0, 0);
-    let two = push_pair(stack, one, p, q, deep);
-    push(stack, two, 15, 0, 0)
-}
-
-// `return` and a query behind another part: 30, a query, or 32, a condition.
-fn push_return(stack: &mut [u16], top: usize, kind: u16, p: u16, q: u16, deep: u16) -> usize
-    requires { 3 * top + 9 ≤ length stack.old }
-    ensures { Pushes 3 stack.old top stack.new result (λ C. item_of C kind p deep ∷ Items.sign 5 ∷ Items.one deep (query_at C q) ∷ []) }
-{
-    let one = push(stack, top, 30, q, deep);
-    let two = push(stack, one, 5, 0, 0);
-    push(stack, two, kind, p, deep)
-}
-
-// What binds a variable: `for` and `in`, or `let` and :=.
-fn push_bound(
-    stack: &mut [u16],
-    top: usize,
-    word: u16,
-    sign: u16,
-    v: u16,
-    p: u16,
-    q: u16,
-    deep: u16,
-) -> usize
-    requires fact_1 { 3 * top + 21 ≤ length stack.old }
-    requires fact_2 { word < 30 }
-    requires fact_3 { sign < 30 }
-    ensures { Pushes 7 stack.old top stack.new result (λ C. Items.sign word ∷ Items.sign 21 ∷ Items.number v ∷ Items.sign sign ∷ Items.one deep (query_at C p) ∷ Items.sign 5 ∷ Items.one deep (query_at C q) ∷ []) }
-{
-    let one = push_return(stack, top, 30, p, q, deep);
-    let two = push(stack, one, sign, 0, 0);
-    let three = push_number(stack, two, 21, v);
-    push(stack, three, word, 0, 0)
-}
-
-// `when`, a condition, `return` and a query.
-fn push_when(stack: &mut [u16], top: usize, p: u16, q: u16, deep: u16) -> usize
-    requires { 3 * top + 12 ≤ length stack.old }
-    ensures { Pushes 4 stack.old top stack.new result (λ C. Items.sign 7 ∷ Items.cond deep (cond_at C p) ∷ Items.sign 5 ∷ Items.one deep (query_at C q) ∷ []) }
-{
-    let one = push_return(stack, top, 32, p, q, deep);
-    push(stack, one, 7, 0, 0)
-}
-
-// Two variables with = between them.
-fn push_equal(stack: &mut [u16], top: usize, v: u16, w: u16) -> usize
-    requires { 3 * top + 15 ≤ length stack.old }
-    ensures { Pushes 5 stack.old top stack.new result (λ C. Items.sign 21 ∷ Items.number v ∷ Items.sign 25 ∷ Items.sign 21 ∷ Items.number w ∷ []) }
-{
-    let one = push_number(stack, top, 21, w);
-    let two = push(stack, one, 25, 0, 0);
-    push_number(stack, two, 21, v)
-}
-
-// Two conditions in parentheses with `or` between them.
-fn push_or(stack: &mut [u16], top: usize, p: u16, q: u16, deep: u16) -> usize
-    requires { 3 * top + 15 ≤ length stack.old }
-    ensures { Pushes 5 stack.old top stack.new result (λ C. Items.sign 15 ∷ Items.cond deep (cond_at C p) ∷ Items.sign 12 ∷ Items.cond deep (cond_at C q) ∷ Items.sign 16 ∷ []) }
-{
-    let one = push(stack, top, 16, 0, 0);
-    let two = push(stack, one, 32, q, deep);
-    let three = push(stack, two, 12, 0, 0);
-    let four = push(stack, three, 32, p, deep);
-    push(stack, four, 15, 0, 0)
-}
-
-// A word and a part behind it: a number behind `empty` and $, or a condition.
-fn push_word(stack: &mut [u16], top: usize, word: u16, kind: u16, a: u16, b: u16) -> usize
-    requires fact_1 { 3 * top + 6 ≤ length stack.old }
-    requires fact_2 { word < 30 }
-    ensures { Pushes 2 stack.old top stack.new result (λ C. Items.sign word ∷ item_of C kind a b ∷ []) }
-{
-    let one = push(stack, top, kind, a, b);
-    push(stack, one, word, 0, 0)
-}
-
-// `empty` and a variable.
-fn push_empty(stack: &mut [u16], top: usize, v: u16) -> usize
-    requires { 3 * top + 9 ≤ length stack.old }
-    ensures { Pushes 3 stack.old top stack.new result (λ C. Items.sign 10 ∷ Items.sign 21 ∷ Items.number v ∷ []) }
-{
-    let one = push_number(stack, top, 21, v);
-    push(stack, one, 10, 0, 0)
-}
-
-// A pair where there may be many items, or one.
-fn push_items(stack: &mut [u16], top: usize, many: bool, p: u16, q: u16, deep: u16) -> usize
-    requires { 3 * top + 15 ≤ length stack.old }
-    ensures { (C : List Node) (n : ℕ) → Grown C stack.old top stack.new result (Items.of_query many deep (Rattle.meaning.specs.Queries.pair n (query_at C p) (query_at C q))) }
-{
-    if many {
-        return push_pair(stack, top, p, q, deep);
-    }
-    push_group(stack, top, p, q, deep)
+    let next = top - parts.len();
+    stack[next..top].copy_from_slice(parts);
+    next
 }
 
 // The parts of a query.
-fn push_query(stack: &mut [u16], top: usize, q: Query, many: bool, deep: u16) -> usize
-    requires { 3 * top + 21 ≤ length stack.old }
-    ensures { (C : List Node) (n : ℕ) → Grown C stack.old top stack.new result (Items.of_query many deep (query_of n (λ i. cond_at C i) (λ i. query_at C i) q)) }
+#[tactic(auto, using(crate::proofs::Pushing::grown), unfolding(crate::specs::Items::of_query))]
+fn push_query(stack: &mut [Part], top: usize, q: Query, many: bool, deep: u16) -> usize
+    requires room { 7 ≤ top }
+    requires inside { top ≤ length stack.old }
+    ensures { (C : List Node) (n : ℕ) → Grown C stack.old top stack.new result (Items.of_query many deep (query_of n (cond_at C) (query_at C) q)) }
 {
     match q {
-        Query::Nothing => push_word(stack, top, 15, 16, 0, 0),
-        Query::Text(t) => push_number(stack, top, 20, t),
-        Query::Element(l, i) => push_element(stack, top, l, i, deep),
-        Query::Pair(i, j) => push_items(stack, top, many, i, j, deep),
-        Query::Variable(v) => push_number(stack, top, 21, v),
-        Query::Child(v, w) => push_step(stack, top, v, 22, w),
-        Query::Dos(v, w) => push_step(stack, top, v, 23, w),
-        Query::For(v, i, j) => push_bound(stack, top, 3, 4, v, i, j, deep),
-        Query::Let(v, i, j) => push_bound(stack, top, 6, 24, v, i, j, deep),
-        Query::When(i, j) => push_when(stack, top, i, j, deep),
+        Query::Nothing => push(stack, top, &[sign(15), sign(16)]),
+        Query::Text(t) => push(stack, top, &[sign(20), number(t)]),
+        Query::Element(l, i) => {
+            let inner = Part::Query(true, deep, i);
+            push(stack, top, &[number(l), sign(17), inner, sign(18)])
+        }
+        Query::Pair(i, j) => {
+            let left = Part::Query(false, deep, i);
+            let right = Part::Query(true, deep, j);
+            if many {
+                return push(stack, top, &[left, sign(19), right]);
+            }
+            push(stack, top, &[sign(15), left, sign(19), right, sign(16)])
+        }
+        Query::Variable(v) => push(stack, top, &[sign(21), number(v)]),
+        Query::Child(v, w) => push(stack, top, &[sign(21), number(v), sign(22), test(w)]),
+        Query::Dos(v, w) => push(stack, top, &[sign(21), number(v), sign(23), test(w)]),
+        Query::For(v, i, j) => {
+            let over = Part::Query(false, deep, i);
+            let body = Part::Query(false, deep, j);
+            push(
+                stack,
+                top,
+                &[sign(3), sign(21), number(v), sign(4), over, sign(5), body],
+            )
+        }
+        Query::Let(v, i, j) => {
+            let bound = Part::Query(false, deep, i);
+            let body = Part::Query(false, deep, j);
+            push(
+                stack,
+                top,
+                &[sign(6), sign(21), number(v), sign(24), bound, sign(5), body],
+            )
+        }
+        Query::When(i, j) => {
+            let test = Part::Cond(deep, i);
+            let body = Part::Query(false, deep, j);
+            push(stack, top, &[sign(7), test, sign(5), body])
+        }
     }
 }
 
 // The parts of a condition.
-fn push_cond(stack: &mut [u16], top: usize, p: Cond, deep: u16) -> usize
-    requires { 3 * top + 21 ≤ length stack.old }
-    ensures { (C : List Node) (n : ℕ) → Grown C stack.old top stack.new result (Items.of_cond deep (cond_of n (λ i. cond_at C i) p)) }
+#[tactic(auto, using(crate::proofs::Pushing::grown), unfolding(crate::specs::Items::of_cond))]
+fn push_cond(stack: &mut [Part], top: usize, p: Cond, deep: u16) -> usize
+    requires room { 7 ≤ top }
+    requires inside { top ≤ length stack.old }
+    ensures { (C : List Node) (n : ℕ) → Grown C stack.old top stack.new result (Items.of_cond deep (cond_of n (cond_at C) p)) }
 {
     match p {
-        Cond::True => push(stack, top, 8, 0, 0),
-        Cond::False => push(stack, top, 9, 0, 0),
-        Cond::Equal(v, w) => push_equal(stack, top, v, w),
-        Cond::Empty(v) => push_empty(stack, top, v),
-        Cond::Or(i, j) => push_or(stack, top, i, j, deep),
-        Cond::Not(i) => push_word(stack, top, 11, 32, i, deep),
+        Cond::True => push(stack, top, &[sign(8)]),
+        Cond::False => push(stack, top, &[sign(9)]),
+        Cond::Equal(v, w) => push(
+            stack,
+            top,
+            &[sign(21), number(v), sign(25), sign(21), number(w)],
+        ),
+        Cond::Empty(v) => push(stack, top, &[sign(10), sign(21), number(v)]),
+        Cond::Or(i, j) => {
+            let left = Part::Cond(deep, i);
+            let right = Part::Cond(deep, j);
+            push(stack, top, &[sign(15), left, sign(12), right, sign(16)])
+        }
+        Cond::Not(i) => push(stack, top, &[sign(11), Part::Cond(deep, i)]),
     }
 }
 
-// The parts of the query or the condition that three words are.
-pub fn expand(
-    code: &[u16],
-    nodes: usize,
-    stack: &mut [u16],
-    top: usize,
-    kind: u16,
-    node: u16,
-    deep: u16,
-) -> usize
-    requires fact_1 { Coded code.now nodes }
-    requires fact_2 { node < nodes }
-    requires fact_3 { 30 ≤ kind }
-    requires fact_4 { 3 * top + 21 ≤ length stack.old }
-    ensures { (d : ℕ) → Grown (code_of code.now nodes) stack.old top stack.new result (Items.parts_of deep (item_of (code_of code.now nodes) kind node d)) }
+// The parts of the query or the condition that a part is, with so many open around them; a piece has none.
+pub fn expand(code: &Nodes, stack: &mut [Part], top: usize, part: Part, deep: u16) -> usize
+    requires lowers { Lowers code.now }
+    requires node { Inside (length code.now) part }
+    requires room { 7 ≤ top }
+    requires inside { top ≤ length stack.old }
+    ensures { Grown code.now stack.old top stack.new result (Items.parts_of deep (item_of code.now part)) }
 {
-    let n = words::wide(node);
-    if kind == 32 {
-        let p = conds::read_cond(code, n);
-        return push_cond(stack, top, p, deep);
+    match part {
+        Part::Piece(_, _) => top,
+        Part::Query(many, _, q) => {
+            let query = queries::read_query(code, usize::from(q));
+            push_query(stack, top, query, many, deep)
+        }
+        Part::Cond(_, p) => {
+            let cond = conds::read_cond(code, usize::from(p));
+            push_cond(stack, top, cond, deep)
+        }
     }
-    let q = queries::read_query(code, n);
-    push_query(stack, top, q, kind == 31, deep)
 }
 
 // Whether a query opens.
+#[tactic(auto, unfolding(crate::specs::Items::query_opens))]
 fn query_opens(q: Query, many: bool) -> bool
-    ensures { (C : List Node) (n : ℕ) → result ≡ Items.query_opens many (query_of n (λ i. cond_at C i) (λ i. query_at C i) q) }
+    ensures { (C : List Node) (n : ℕ) → result ≡ Items.query_opens many (query_of n (cond_at C) (query_at C) q) }
 {
     match q {
-        Query::Nothing => true,
-        Query::Text(_) => false,
-        Query::Element(_, _) => true,
         Query::Pair(_, _) => !many,
-        Query::Variable(_) => false,
-        Query::Child(_, _) => false,
-        Query::Dos(_, _) => false,
-        Query::For(_, _, _) => true,
-        Query::Let(_, _, _) => true,
-        Query::When(_, _) => true,
+        Query::Nothing
+        | Query::Element(_, _)
+        | Query::For(_, _, _)
+        | Query::Let(_, _, _)
+        | Query::When(_, _) => true,
+        Query::Text(_) | Query::Variable(_) | Query::Child(_, _) | Query::Dos(_, _) => false,
     }
 }
 
 // Whether a condition opens.
+#[tactic(auto, unfolding(crate::specs::Items::cond_opens))]
 fn cond_opens(p: Cond) -> bool
-    ensures { (C : List Node) (n : ℕ) → result ≡ Items.cond_opens (cond_of n (λ i. cond_at C i) p) }
+    ensures { (C : List Node) (n : ℕ) → result ≡ Items.cond_opens (cond_of n (cond_at C) p) }
 {
     match p {
-        Cond::True => false,
-        Cond::False => false,
-        Cond::Equal(_, _) => false,
-        Cond::Empty(_) => false,
         Cond::Or(_, _) => true,
         Cond::Not(_) => true,
+        _ => false,
     }
 }
 
-// Whether the query or the condition that three words are opens.
-pub fn opens(code: &[u16], nodes: usize, kind: u16, node: u16) -> bool
-    requires fact_1 { Coded code.now nodes }
-    requires fact_2 { node < nodes }
-    requires fact_3 { 30 ≤ kind }
-    ensures { (d : ℕ) → result ≡ Items.opens (item_of (code_of code.now nodes) kind node d) }
+// Whether the query or the condition that a part is opens; a piece does not.
+pub fn opens(code: &Nodes, part: Part) -> bool
+    requires lowers { Lowers code.now }
+    requires node { Inside (length code.now) part }
+    ensures { result ≡ Items.opens (item_of code.now part) }
 {
-    let n = words::wide(node);
-    if kind == 32 {
-        let p = conds::read_cond(code, n);
-        return cond_opens(p);
+    match part {
+        Part::Piece(_, _) => false,
+        Part::Query(many, _, q) => query_opens(queries::read_query(code, usize::from(q)), many),
+        Part::Cond(_, p) => cond_opens(conds::read_cond(code, usize::from(p))),
     }
-    let q = queries::read_query(code, n);
-    query_opens(q, kind == 31)
 }

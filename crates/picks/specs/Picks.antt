@@ -5,8 +5,7 @@ use Rattle.meaning.specs.Forests.{Forest}
 use Rattle.meaning.specs.Running.{Env}
 use Rattle.spans.specs.Shows.{start, stop, Shows}
 use Rattle.spans.specs.declared.Spans.{Spans}
-use Rattle.copies.specs.Fills.{Copied, Stretch}
-use Rattle.copies.specs.declared.Made.{Made}
+use Rattle.copies.specs.Fills.{Made, Copied, Stretch}
 
 -- a variable's stretch holds a forest
 pub record Within (s : Spans) (held : List ℕ) (v : ℕ) : Type 0 where

@@ -4,133 +4,157 @@
 // are; from 8 on 64 definitions, from 72 on the three words of 16 variables; at 120 a run's first entry. It is 0 for what the operation does not tell.
 #![tactic(auto)]
 
+use answered::Answered;
+use back::Back;
+use jobs::Job;
+use ran::Ran;
 use reading::Given;
+use refusals::Refusal;
+use texts::Text;
+use typed::Typed;
 
-// What the answers of all operations tell.
-#[derive(Drop)]
+// What the answers of all operations tell: 0 for what one does not.
+#[derive(Clone, Copy)]
 struct Told {
-    number: u16,
-    place: usize,
     types: usize,
     nodes: usize,
     result: usize,
     length: usize,
     first: usize,
+    given: Given,
 }
 
-fn accepted(types: usize, nodes: usize, res: usize, length: usize, first: usize) -> Told {
-    Told {
-        number: 0,
-        place: 0,
-        types,
-        nodes,
-        result: res,
-        length,
-        first,
+impl From<Job> for Told {
+    fn from(job: Job) -> Told {
+        Told {
+            types: job.types,
+            nodes: job.nodes,
+            result: 0,
+            length: 0,
+            first: 0,
+            given: job.given,
+        }
     }
 }
 
-fn refused(number: u16, place: usize) -> Told {
-    Told {
-        number,
-        place,
-        types: 0,
-        nodes: 0,
-        result: 0,
-        length: 0,
-        first: 0,
+impl From<Typed> for Told {
+    fn from(typed: Typed) -> Told {
+        Told {
+            types: typed.types,
+            nodes: typed.nodes,
+            result: typed.result,
+            length: 0,
+            first: 0,
+            given: typed.given,
+        }
     }
 }
 
-fn of_job(answer: jobs::Answer) -> Told {
-    match answer {
-        jobs::Answer::Accepted { types, nodes } => accepted(types, nodes, 0, 0, 0),
-        jobs::Answer::Refused { number, place } => refused(number, place),
+impl From<Answered> for Told {
+    fn from(answered: Answered) -> Told {
+        Told {
+            types: answered.types,
+            nodes: answered.nodes,
+            result: answered.result,
+            length: answered.length,
+            first: 0,
+            given: answered.given,
+        }
     }
 }
 
-fn of_typed(answer: typed::Answer) -> Told {
-    match answer {
-        typed::Answer::Accepted {
-            result,
-            types,
-            nodes,
-        } => accepted(types, nodes, result, 0, 0),
-        typed::Answer::Refused { number, place } => refused(number, place),
+impl From<Back> for Told {
+    fn from(back: Back) -> Told {
+        Told {
+            types: back.types,
+            nodes: 0,
+            result: back.result,
+            length: 0,
+            first: 0,
+            given: back.given,
+        }
     }
 }
 
-fn of_answered(answer: answered::Answer) -> Told {
-    match answer {
-        answered::Answer::Accepted {
+impl From<Ran> for Told {
+    fn from(ran: Ran) -> Told {
+        Told {
+            types: ran.types,
+            nodes: ran.nodes,
+            result: ran.result,
+            length: ran.length,
+            first: ran.first,
+            given: ran.given,
+        }
+    }
+}
+
+// The length of a query section.
+impl From<usize> for Told {
+    fn from(length: usize) -> Told {
+        Told {
+            types: 0,
+            nodes: 0,
+            result: 0,
             length,
-            result,
-            types,
-            nodes,
-        } => accepted(types, nodes, result, length, 0),
-        answered::Answer::Refused { number, place } => refused(number, place),
+            first: 0,
+            given: reading::nothing_given(),
+        }
     }
 }
 
-fn of_back(answer: back::Answer) -> Told {
-    match answer {
-        back::Answer::Accepted { result, types } => accepted(types, 0, result, 0, 0),
-        back::Answer::Refused { number, place } => refused(number, place),
-    }
-}
-
-fn of_ran(answer: ran::Answer) -> Told {
-    match answer {
-        ran::Answer::Accepted {
-            first,
-            length,
-            result,
-            types,
-            nodes,
-        } => accepted(types, nodes, result, length, first),
-        ran::Answer::Refused { number, place } => refused(number, place),
+impl From<Text> for Told {
+    fn from(text: Text) -> Told {
+        Told {
+            types: text.types,
+            nodes: text.nodes,
+            result: 0,
+            length: text.length,
+            first: 0,
+            given: reading::nothing_given(),
+        }
     }
 }
 
 // A number of an answer, where there is room for it.
 fn put(out: &mut [u64], at: usize, n: usize) {
-    if at < out.len() {
-        out[at] = n as u64;
+    if let Some(to) = out.get_mut(at) {
+        *to = n as u64;
     }
-}
-
-fn put_told(out: &mut [u64], told: Told) {
-    put(out, 0, words::wide(told.number));
-    put(out, 1, told.place);
-    put(out, 2, told.types);
-    put(out, 3, told.nodes);
-    put(out, 4, told.result);
-    put(out, 5, told.length);
-    put(out, 120, told.first);
 }
 
 // Words from a place on, as many as there is room for.
 fn put_words(out: &mut [u64], at: usize, words: &[u16]) {
-    let mut to = at;
-    let mut i = 0;
-    while i < words.len() {
-        if to >= out.len() {
-            return;
+    if let Some(room) = out.get_mut(at..) {
+        for (to, word) in room.iter_mut().zip(words) {
+            *to = u64::from(*word);
         }
-        put(out, to, words::wide(words[i]));
-        to += 1;
-        i += 1;
     }
 }
 
-fn leave(told: Told, given: Given, out: &mut [u64]) {
-    let defs = given.defs;
-    let vars = given.vars;
-    put_told(out, told);
-    put(out, 6, given.used);
-    put(out, 7, given.declared);
-    put_words(out, 8, &defs);
-    put_words(out, 72, &vars);
+// The answer: 0 and what it tells, or the refusal and its place with nothing beside them.
+fn leave<T: Into<Told> + Drop>(answer: Result<T, Refusal>, out: &mut [u64]) {
+    let told = match answer {
+        Ok(x) => {
+            put(out, 0, 0);
+            put(out, 1, 0);
+            x.into()
+        }
+        Err(refusal) => {
+            put(out, 0, usize::from(refusal.reason.number()));
+            put(out, 1, refusal.place);
+            Told::from(0)
+        }
+    };
+    put(out, 2, told.types);
+    put(out, 3, told.nodes);
+    put(out, 4, told.result);
+    put(out, 5, told.length);
+    put(out, 6, told.given.used);
+    put(out, 7, told.given.declared);
+    put_words(out, 8, &told.given.defs);
+    put_words(out, 72, &told.given.vars);
+    put(out, 120, told.first);
 }
 
 #[unsafe(no_mangle)]
@@ -140,10 +164,7 @@ pub extern "C" fn probe_read_job(
     query: &mut [u16],
     out: &mut [u64],
 ) {
-    let read = emberstitch::read_job(job, types, query);
-    let kind = read.answer;
-    let given = read.given;
-    leave(of_job(kind), given, out);
+    leave(emberstitch::read_job(job, types, query), out);
 }
 
 #[unsafe(no_mangle)]
@@ -153,10 +174,7 @@ pub extern "C" fn probe_type_job(
     query: &mut [u16],
     out: &mut [u64],
 ) {
-    let typed = emberstitch::type_job(job, types, query);
-    let kind = typed.answer;
-    let given = typed.given;
-    leave(of_typed(kind), given, out);
+    leave(emberstitch::type_job(job, types, query), out);
 }
 
 #[unsafe(no_mangle)]
@@ -167,18 +185,12 @@ pub extern "C" fn probe_answer_job(
     answer: &mut [u8],
     out: &mut [u64],
 ) {
-    let answered = emberstitch::answer_job(job, types, query, answer);
-    let kind = answered.answer;
-    let given = answered.given;
-    leave(of_answered(kind), given, out);
+    leave(emberstitch::answer_job(job, types, query, answer), out);
 }
 
 #[unsafe(no_mangle)]
 pub extern "C" fn probe_read_answer(file: &[u8], types: &mut [u16], out: &mut [u64]) {
-    let back = emberstitch::read_answer(file, types);
-    let kind = back.answer;
-    let given = back.given;
-    leave(of_back(kind), given, out);
+    leave(emberstitch::read_answer(file, types), out);
 }
 
 #[unsafe(no_mangle)]
@@ -190,34 +202,12 @@ pub extern "C" fn probe_run_job(
     work: &mut [u16],
     out: &mut [u64],
 ) {
-    let ran = emberstitch::run_job(job, values, types, query, work);
-    let kind = ran.answer;
-    let given = ran.given;
-    leave(of_ran(kind), given, out);
-}
-
-fn of_parsed(answer: parses::Parsed) -> Told {
-    match answer {
-        parses::Parsed::Bytes(length) => accepted(0, 0, 0, length, 0),
-        parses::Parsed::Refused { number, place } => refused(number, place),
-    }
-}
-
-fn of_text(answer: texts::Answer) -> Told {
-    match answer {
-        texts::Answer::Accepted {
-            length,
-            types,
-            nodes,
-        } => accepted(types, nodes, 0, length, 0),
-        texts::Answer::Refused { number, place } => refused(number, place),
-    }
+    leave(emberstitch::run_job(job, values, types, query, work), out);
 }
 
 #[unsafe(no_mangle)]
 pub extern "C" fn probe_parse_text(text: &[u8], section: &mut [u8], out: &mut [u64]) {
-    let parsed = emberstitch::parse_text(text, section);
-    leave(of_parsed(parsed), reading::nothing_given(), out);
+    leave(emberstitch::parse_text(text, section), out);
 }
 
 #[unsafe(no_mangle)]
@@ -228,6 +218,5 @@ pub extern "C" fn probe_write_text(
     text: &mut [u8],
     out: &mut [u64],
 ) {
-    let written = emberstitch::write_text(job, types, query, text);
-    leave(of_text(written), reading::nothing_given(), out);
+    leave(emberstitch::write_text(job, types, query, text), out);
 }

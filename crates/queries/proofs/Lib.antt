@@ -1,3 +1,2 @@
--- Laws of queries by the kind of their node, and of the query at a node of a table. Read in this order.
-pub mod Nodes
+-- Laws of the query at a node of a table.
 pub mod Named

@@ -1,19 +1,17 @@
 -- The query at a node of a table by what its node says; what it names: variables up to 63, labels, and lower nodes.
 -- Assumes nothing.
-use mathlib.Core.Path.{◌≡◌, sym, ap, subst, ◌∙◌}
+use mathlib.Core.Path.{◌≡◌, sym, subst, ◌∙◌}
 use mathlib.Core.List.{List}
 use Prim.Native.Nat.{ℕ, ◌≤◌, ◌<◌}
-use native.Mathlib.Omega.{arith}
-use Rattle.meaning.specs.Base.{At, find}
-use Rattle.meaning.specs.Records.{Node, node}
+use lib.ListN.{length}
+use Rattle.meaning.specs.Base.{find}
+use Rattle.meaning.specs.Records.{Node, node, node_at}
 use Rattle.meaning.specs.Formed.{NodeLow, query·empty, query·text, query·element, query·pair, query·variable, query·child, query·dos, query·for, query·let, query·when, condition·true, condition·false, condition·equal, condition·empty, condition·or, condition·not}
 use Rattle.meaning.specs.Queries as Queries
 use Rattle.meaning.specs.Queries.{expand_query, cond_at, query_at}
 use Rattle.meaning.proofs.Lists.{at_is}
 use Rattle.meaning.proofs.Codes.{query_law}
-use Rattle.words.specs.Tables.{node_in, code_of}
-use Rattle.words.proofs.Tables.{code_length, code_at}
-use Rattle.uses.specs.Counts.{Coded}
+use Rattle.uses.specs.Counts.{Lowers}
 use Rattle.queries.specs.Says.{query_of, Says}
 use Rattle.queries.specs.declared.Query.{Query}
 
@@ -71,20 +69,14 @@ low_expand (condition·or p q) = tt
 low_expand (condition·not p) = tt
 
 -- ONE NODE of a table
-module _ (code : List ℕ) (nodes : ℕ) (coded : Coded code nodes) {n : ℕ} (l : n < nodes) {c : Query} (s : Says n (node_in code n) c) where
-  node_at_lem : At (code_of code nodes) n (node_in code n)
-  node_at_lem = rw (code_at code nodes n l) at (at_is (code_of code nodes) n (node 0 0 0 0) (omega (arith, code_length code nodes)))
-
+module _ (C : List Node) (lowers : Lowers C) {n : ℕ} (l : n < length C) {c : Query} (s : Says n (node_at C n) c) where
   -- the query at it, by what the node says
-  pub query_is : query_at (code_of code nodes) n ≡ query_of n (λ i. cond_at (code_of code nodes) i) (λ i. query_at (code_of code nodes) i) c
-  query_is =
-      query_law (code_of code nodes) coded.low n (omega (arith, code_length code nodes))
-      ∙ ap (expand_query n (λ i. cond_at (code_of code nodes) i) (λ i. query_at (code_of code nodes) i)) (code_at code nodes n l)
-      ∙ sym (s.is (λ i. cond_at (code_of code nodes) i) (λ i. query_at (code_of code nodes) i))
+  pub query_is : query_at C n ≡ query_of n (cond_at C) (query_at C) c
+  query_is = query_law C lowers.low n l ∙ sym (s.is (cond_at C) (query_at C))
 
   -- what it names
   query_low : LowAt n (query_of n Queries.always Queries.nothing c)
-  query_low = subst (LowAt n) (sym (s.is Queries.always Queries.nothing)) (low_expand (coded.low n (node_in code n) node_at_lem))
+  query_low = subst (LowAt n) (sym (s.is Queries.always Queries.nothing)) (low_expand (lowers.low n (node_at C n) (at_is C n (node 0 0 0 0) l)))
 
   pub element_low : {a q : ℕ} → c ≡ Query.Element a q → (1 ≤ a) × (a ≤ 65534) × (q < n)
   element_low e = rw e at query_low

@@ -1,2 +1,2 @@
--- What a query node of this crate says in document 01's terms.
+-- What a query node of this crate says in the terms of `meaning`.
 pub mod Says

@@ -1,4 +1,4 @@
--- What a query node of this crate says in document 01's terms: the query at it, from those at the nodes that it names.
+-- What a query node of this crate says in the terms of `meaning`: the query at it, from those at the nodes that it names.
 -- Assumes nothing.
 use Rattle.std.specs.Prelude.{◌≡◌, ℕ}
 use Rattle.meaning.specs.Records.{Node}

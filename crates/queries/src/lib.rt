@@ -1,14 +1,14 @@
 // A query node of the lent query table as an enum, for the typing walk and for the evaluator.
 #![tactic(auto)]
 
-ghost use Rattle.std.specs.Prelude.{ℕ, ◌+◌, ◌*◌, ◌≤◌, length};
-ghost use Rattle.meaning.specs.Base.{code_width};
-ghost use Rattle.meaning.specs.Records.{node};
-ghost use Rattle.words.specs.Tables.{node_in};
+ghost use Rattle.std.specs.Prelude.{ℕ, ◌<◌, length};
+ghost use Rattle.meaning.specs.Records.{node, node_at};
 ghost use Rattle.queries.specs.Says.{Says};
 
+use tables::Nodes;
+
 // A query as its node gives it: texts, labels, variables and test words, or the nodes of other queries and conditions.
-#[derive(Drop)]
+#[derive(Clone, Copy, Debug, PartialEq, Eq)]
 pub enum Query {
     Nothing,
     Text(u16),
@@ -23,6 +23,7 @@ pub enum Query {
 }
 
 // The query of a kind with these fields.
+#[tactic(auto, unfolding(meaning::specs::Queries::expand_query, meaning::specs::Base::find))]
 fn query_of(kind: u16, a: u16, b: u16, c: u16) -> Query
     ensures { (n : ℕ) → Says n (node kind a b c) result }
 {
@@ -41,10 +42,10 @@ fn query_of(kind: u16, a: u16, b: u16, c: u16) -> Query
 }
 
 // The query at node n.
-pub fn read_query(code: &[u16], n: usize) -> Query
-    requires { code_width * n + code_width ≤ length code.now }
-    ensures { Says n (node_in code.now n) result }
+pub fn read_query(code: &Nodes, n: usize) -> Query
+    requires { n < length code.now }
+    ensures { Says n (node_at code.now n) result }
 {
-    let x = words::read_node(code, n);
+    let x = code.get(n);
     query_of(x.kind, x.a, x.b, x.c)
 }

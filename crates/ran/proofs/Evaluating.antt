@@ -8,18 +8,16 @@ use lib.ListN.{length, take, drop, length-append}
 use lib.Seq.{take_at, drop_at, length-take-le}
 use Rattle.meaning.specs.Base.{Out, zeros, padded, work_capacity}
 use Rattle.meaning.specs.Forests.{Forest, forest_words}
-use Rattle.meaning.specs.Records.{Var}
+use Rattle.meaning.specs.Records.{Node, Var}
 use Rattle.meaning.specs.Queries.{query_at}
 use Rattle.meaning.specs.Values.{Value, joined}
 use Rattle.meaning.specs.Running.{eval, env_of}
-use Rattle.words.specs.Tables.{stored, code_of, vars_of}
+use Rattle.words.specs.Tables.{stored}
 use Rattle.words.proofs.Rows.{zeros_length, padded_most}
-use Rattle.words.proofs.Tables.{vars_length}
-use Rattle.reading.specs.declared.Given.{Given}
+use Rattle.values.specs.declared.Loaded.{Loaded}
 use Rattle.spans.specs.declared.Spans.{Spans}
 use Rattle.spans.proofs.Binding.{shows_below}
-use Rattle.copies.specs.declared.Made.{Made}
-use Rattle.copies.specs.Fills.{Filled}
+use Rattle.copies.specs.Fills.{Made, Filled}
 use Rattle.copies.proofs.Lent.{zeros_append}
 use Rattle.copies.proofs.Filling.{filled_words}
 use Rattle.values.specs.Says.{ends_of}
@@ -97,28 +95,28 @@ module _ {vars : List (ℕ × Var)} {ends : List ℕ} {count : ℕ} {work : List
     left_whole (Evaluates.done x) = Says.done x.count (laid_whole x)
     left_whole Evaluates.full = Says.full
 
-    evaluated : (held : List ℕ) {after : List ℕ} {scope : Spans} {us : List ℕ} {made : Made} (spread : Spread vars ends scope) (e : after ≡ stored held 0 (take (3 * count) work)) (long : length after ≡ 24576) (query : List ℕ) (nodes : ℕ)
-        → Evaluates.Evaluated scope after (length rest) us count made (query_at (code_of query nodes) (nodes - 1))
-        → Evaluated (length work) (take (3 * count) work ++ (us ++ drop (3 * room - 3 * count) (drop (3 * count) work))) (joined vs) made (eval (work_capacity (length work)) (query_at (code_of query nodes) (nodes - 1)) (env_of vs) count)
+    evaluated : (held : List ℕ) {after : List ℕ} {scope : Spans} {us : List ℕ} {made : Made} (spread : Spread vars ends scope) (e : after ≡ stored held 0 (take (3 * count) work)) (long : length after ≡ 24576) (C : List Node)
+        → Evaluates.Evaluated scope after (length rest) us count made (query_at C (length C - 1))
+        → Evaluated (length work) (take (3 * count) work ++ (us ++ drop (3 * room - 3 * count) (drop (3 * count) work))) (joined vs) made (eval (work_capacity (length work)) (query_at C (length C - 1)) (env_of vs) count)
     unfolding begins
-    evaluated held {us = us} {made} spread e long query nodes x =
+    evaluated held {us = us} {made} spread e long C x =
         let top : count + length rest / 3 ≡ work_capacity (length work) = omega (arith, rest_length, within.0, q) in
         let b = begins held spread e long in
-        left_whole (subst (λ (t : ℕ). Evaluates.Left (length rest) us made (eval t (query_at (code_of query nodes) (nodes - 1)) (env_of vs) count)) top (x.is (env_of vs) b.shows))
+        left_whole (subst (λ (t : ℕ). Evaluates.Left (length rest) us made (eval t (query_at C (length C - 1)) (env_of vs) count)) top (x.is (env_of vs) b.shows))
 
 -- THE EVALUATION behind values that were loaded
-module _ {query : List ℕ} {nodes : ℕ} {g : Given} {ends work : List ℕ} {count : ℕ} (ready : Ready query nodes g) (b : Begins g ends work count) where
-  pub loaded_within : (3 * count ≤ length work) × (3 * count ≤ 24576) × (g.declared ≤ length ends)
+module _ {C : List Node} {V : List (ℕ × Var)} {l : Loaded} {work : List ℕ} (ready : Ready C V) (b : Begins V l work) where
+  pub loaded_within : (3 * l.entries ≤ length work) × (3 * l.entries ≤ 24576) × (length V ≤ length l.ends)
   loaded_within =
       let h = b.loads in
-      (omega (arith, h.fits), omega (arith, h.fits), omega (arith, ap length h.ends_are, padded_most 16 (ends_of b.values), ends_length 0 b.values, loads_count h, vars_length g.vars g.declared))
+      (omega (arith, h.fits), omega (arith, h.fits), omega (arith, ap length h.ends_are, padded_most 16 (ends_of b.values), ends_length 0 b.values, loads_count h))
 
-  module _ (held : List ℕ) {after : List ℕ} {scope : Spans} (spread : Spread (vars_of g.vars g.declared) ends scope) (e : after ≡ stored held 0 (take (3 * count) work)) (long : length after ≡ 24576) (room : ℕ) (q : room ≡ work_capacity (length work)) where
-    pub eval_ready : Evaluates.Ready query nodes scope after (take (3 * room - 3 * count) (drop (3 * count) work)) count (nodes - 1)
+  module _ (held : List ℕ) {after : List ℕ} {scope : Spans} (spread : Spread V l.ends scope) (e : after ≡ stored held 0 (take (3 * l.entries) work)) (long : length after ≡ 24576) (room : ℕ) (q : room ≡ work_capacity (length work)) where
+    pub eval_ready : Evaluates.Ready C scope after (take (3 * room - 3 * l.entries) (drop (3 * l.entries) work)) l.entries (length C - 1)
     unfolding rest
-    eval_ready = record { coded = ready.coded; low = omega (arith, ready.rooted); begins = begins b.loads room q held spread e long }
+    eval_ready = record { lowers = ready.lowers; low = omega (arith, ready.rooted); begins = begins b.loads room q held spread e long }
 
-    pub eval_leaves : {us : List ℕ} {made : Made} → Evaluates.Evaluated scope after (length (take (3 * room - 3 * count) (drop (3 * count) work))) us count made (query_at (code_of query nodes) (nodes - 1))
-        → Says.Evaluates query nodes g ends count work (take (3 * count) work ++ (us ++ drop (3 * room - 3 * count) (drop (3 * count) work))) made
+    pub eval_leaves : {us : List ℕ} {made : Made} → Evaluates.Evaluated scope after (length (take (3 * room - 3 * l.entries) (drop (3 * l.entries) work))) us l.entries made (query_at C (length C - 1))
+        → Says.Evaluates C V l work (take (3 * l.entries) work ++ (us ++ drop (3 * room - 3 * l.entries) (drop (3 * l.entries) work))) made
     unfolding rest
-    eval_leaves x = record { is = λ vs h. evaluated h room q held spread e long query nodes x }
+    eval_leaves x = record { is = λ vs h. evaluated h room q held spread e long C x }

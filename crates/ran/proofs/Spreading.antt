@@ -1,30 +1,27 @@
 -- Values that were loaded: where they stand in the work table; and the scope of the declared variables, bound from the last to the first, shows them.
 -- Assumes nothing.
+use Rattle.std.specs.Prelude as Std
 use mathlib.Core.Path.{◌≡◌, refl, sym, ap, ◌∙◌, subst}
 use mathlib.Core.Logic.{◌≢◌}
 use mathlib.Core.List.{List, [], ◌∷◌, ◌++◌, append-nil, map}
-use Prim.Native.Nat.{ℕ, zero, suc, ◌+◌, ◌*◌, ◌-◌, ◌≤◌, ◌<◌}
+use Prim.Native.Nat.{ℕ, zero, suc, ◌*◌, ◌-◌, ◌≤◌, ◌<◌}
 use native.Mathlib.Omega.{arith}
 use lib.ListN.{length, get_or, take, drop, drop_of_length-le}
 use lib.Seq.{drop-cons}
 use Rattle.meaning.specs.Base.{ok, At, zeros, padded}
 use Rattle.meaning.specs.Forests.{end, size, forest_words}
-use Rattle.meaning.specs.Records as Records
-use Rattle.meaning.specs.Records.{Var}
+use Rattle.meaning.specs.Records.{Var, var_of}
 use Rattle.meaning.specs.Formed.{VarsRead}
 use Rattle.meaning.specs.Values.{Value, joined}
 use Rattle.meaning.specs.Running.{env_of}
 use Rattle.meaning.proofs.Lists.{at_is}
 use Rattle.meaning.proofs.Forests.{length_words}
 use Rattle.words.specs.declared.Entry.{Entry}
-use Rattle.words.specs.Tables.{var_in, vars_of}
-use Rattle.words.proofs.Tables.{vars_length, vars_at}
-use Rattle.scope.proofs.Given.{var_low}
+use Rattle.tables.specs.Rows.{var_in, var_at}
 use Rattle.spans.specs.Shows.{bound, none, part, Shows, Inside}
 use Rattle.spans.specs.declared.Span.{Span}
 use Rattle.spans.specs.declared.Spans.{Spans}
 use Rattle.spans.proofs.Binding.{inside_bind, shows_bind, inside_none, shows_none}
-use Rattle.values.specs.declared.Answer.TheVariants as Answer
 use Rattle.values.specs.declared.Loaded.{Loaded}
 use Rattle.values.specs.Says as Values
 use Rattle.values.specs.Says.{ends_of, loaded_of}
@@ -41,7 +38,7 @@ map_at f (x ∷ l) zero z = refl
 map_at f (x ∷ l) (suc i) z = map_at f l i z
 
 none_like : Value
-none_like = record { declared = (0, Records.tree 0); place = 0; part = record { forest = end; places = []; next = 0 } }
+none_like = record { declared = (0, var_of 0 0); place = 0; part = record { forest = end; places = []; next = 0 } }
 
 -- VALUES THAT WERE LOADED
 module _ {vars : List (ℕ × Var)} {ends : List ℕ} {count : ℕ} {work : List ℕ} {vs : List Value} (h : Loads vars ends count work vs) where
@@ -49,14 +46,14 @@ module _ {vars : List (ℕ × Var)} {ends : List ℕ} {count : ℕ} {work : List
   loads_length = length_words (joined vs) ∙ ap (λ (n : ℕ). 3 * n) (sym h.entries)
 
   loaded : Loaded
-  loaded = record { answer = Answer.Values (size (joined vs)); ends = padded 16 (ends_of vs) }
+  loaded = record { entries = size (joined vs); ends = padded 16 (ends_of vs) }
 
   -- as the loader leaves them, with zeros behind them and without
-  left_table : Values.Left (length work) loaded work (ok vs)
+  left_table : Values.Left (length work) (Std.Ok loaded) work (ok vs)
   unfolding loaded_of loaded
   left_table = record { answer = refl; work = h.laid }
 
-  left_alone : Values.Left (3 * count) loaded (forest_words (joined vs)) (ok vs)
+  left_alone : Values.Left (3 * count) (Std.Ok loaded) (forest_words (joined vs)) (ok vs)
   unfolding loaded_of loaded zeros
   left_alone = let z : 3 * count - length (forest_words (joined vs)) ≡ 0 = omega (arith, loads_length) in record { answer = refl; work = sym (ap (λ (k : ℕ). forest_words (joined vs) ++ zeros k) z ∙ append-nil (forest_words (joined vs))) }
 
@@ -95,44 +92,47 @@ module _ {vars : List (ℕ × Var)} {ends : List ℕ} {count : ℕ} {work : List
 pub record From (vars : List (ℕ × Var)) (ends : List ℕ) (i : ℕ) (s : Spans) : Type 0 where
   pub is : (count : ℕ) (work : List ℕ) (vs : List Value) → Loads vars ends count work vs → Inside s count × Shows work s (env_of (drop i vs))
 
-pub from_none : (ws ends : List ℕ) (n : ℕ) {s : Spans} → s ≡ none → From (vars_of ws n) ends n s
-from_none ws ends n e =
+pub from_none : (V : List (ℕ × Var)) (ends : List ℕ) {n : ℕ} → n ≡ length V → {s : Spans} → s ≡ none → From V ends n s
+from_none V ends {n} long e =
     rw e
-    (record { is = λ count work vs h. (inside_none count, rw (drop_of_length-le vs {i = n} (omega (arith, loads_count h, vars_length ws n))) (shows_none work)) })
+    (record { is = λ count work vs h. (inside_none count, rw (drop_of_length-le vs {i = n} (omega (arith, loads_count h))) (shows_none work)) })
 
 pub from_all : {vars : List (ℕ × Var)} {ends : List ℕ} {s : Spans} {i : ℕ} → i ≡ 0 → From vars ends i s → Spread vars ends s
 from_all {vars} {ends} {s} e f = record { is = (subst (λ (k : ℕ). From vars ends k s) e f).is }
 
 -- a turn of the loop, whatever names the code has for its parts
-pub turn_low : (ws : List ℕ) (n : ℕ) → VarsRead 4096 (vars_of ws n) → (i v : ℕ) (x : Entry) → 0 < i → i ≤ n → x ≡ record { kind = get_or ws (3 * (i - 1)) 0; a = get_or ws (3 * (i - 1) + 1) 0; b = get_or ws (3 * (i - 1) + 2) 0 } → v ≡ x.a → v < 64
-turn_low ws n read i v x h l p q = omega (arith, ap (λ (y : Entry). y.a) p, (var_low ws n read (i - 1) (omega arith)).0)
+var_low : (V : List (ℕ × Var)) → VarsRead 4096 V → (i : ℕ) → i < length V → (var_at V i).0 < 64
+var_low V read i l = omega (arith, read.low i (var_at V i).0 (var_at V i).1 (at_is V i (0, var_of 0 0) l))
 
-module _ (ws ends : List ℕ) (n : ℕ) (read : VarsRead 4096 (vars_of ws n)) where
-  from_one : (s : Spans) (i : ℕ) → i < n → From (vars_of ws n) ends (suc i) s → From (vars_of ws n) ends i (bound s (get_or ws (3 * i + 1) 0) (record { from = start_of ends i; to = get_or ends i 0 }))
-  unfolding ith
+pub turn_low : (V : List (ℕ × Var)) → VarsRead 4096 V → (i v : ℕ) (x : Entry) → 0 < i → i ≤ length V → var_in x ≡ var_at V (i - 1) → v ≡ x.a → v < 64
+turn_low V read i v x h l p q = omega (arith, ap (λ (y : ℕ × Var). y.0) p, var_low V read (i - 1) (omega arith))
+
+module _ (V : List (ℕ × Var)) (ends : List ℕ) (read : VarsRead 4096 V) where
+  from_one : (s : Spans) (i : ℕ) → i < length V → From V ends (suc i) s → From V ends i (bound s (var_at V i).0 (record { from = start_of ends i; to = get_or ends i 0 }))
+  unfolding ith none_like
   from_one s i l f = record { is = go }
     where
-      go : (count : ℕ) (work : List ℕ) (vs : List Value) → Loads (vars_of ws n) ends count work vs
-          → Inside (bound s (get_or ws (3 * i + 1) 0) (record { from = start_of ends i; to = get_or ends i 0 })) count × Shows work (bound s (get_or ws (3 * i + 1) 0) (record { from = start_of ends i; to = get_or ends i 0 })) (env_of (drop i vs))
+      go : (count : ℕ) (work : List ℕ) (vs : List Value) → Loads V ends count work vs
+          → Inside (bound s (var_at V i).0 (record { from = start_of ends i; to = get_or ends i 0 })) count × Shows work (bound s (var_at V i).0 (record { from = start_of ends i; to = get_or ends i 0 })) (env_of (drop i vs))
       go count work vs h =
-          let low : i < length vs = omega (arith, loads_count h, vars_length ws n) in
+          let low : i < length vs = omega (arith, loads_count h) in
           let was = f.is count work vs h in
-          let v = get_or ws (3 * i + 1) 0 in
+          let v = (var_at V i).0 in
           let x : Span = record { from = start_of ends i; to = get_or ends i 0 } in
           let y = ith h i in
           let a = ith_at h i low in
-          let named : y.declared ≡ var_in ws i =
-          sym (map_at (λ (u : Value). u.declared) vs i none_like) ∙ ap (λ (us : List (ℕ × Var)). get_or us i none_like.declared) h.declared ∙ vars_at ws none_like.declared n i l in
-          let here = shows_bind was.0 v (var_low ws n read i l).0 x y.part.forest (ith_part h i low) was.1 in
+          let named : y.declared ≡ var_at V i =
+          sym (map_at (λ (u : Value). u.declared) vs i none_like) ∙ ap (λ (us : List (ℕ × Var)). get_or us i none_like.declared) h.declared in
+          let here = shows_bind was.0 v (var_low V read i l) x y.part.forest (ith_part h i low) was.1 in
           let env : (v, y.part.forest) ∷ env_of (drop (suc i) vs) ≡ env_of (drop i vs) = ap (λ (k : ℕ). (k, y.part.forest) ∷ env_of (drop (suc i) vs)) (sym (ap (λ (d : ℕ × Var). d.0) named)) ∙ sym (ith_env h i low) in
-          (inside_bind was.0 v (var_low ws n read i l).0 x (omega (arith, (stands h i y a).end_is)) (below h i y a), subst (Shows work (bound s v x)) env here)
+          (inside_bind was.0 v (var_low V read i l) x (omega (arith, (stands h i y a).end_is)) (below h i y a), subst (Shows work (bound s v x)) env here)
 
-  pub turn_from : (i : ℕ) {s r : Spans} (x : Entry) (v from to : ℕ) → 0 < i → i ≤ n → x ≡ record { kind = get_or ws (3 * (i - 1)) 0; a = get_or ws (3 * (i - 1) + 1) 0; b = get_or ws (3 * (i - 1) + 2) 0 } → v ≡ x.a
-      → from ≡ start_of ends (i - 1) → to ≡ get_or ends (i - 1) 0 → r ≡ bound s v (record { from = from; to = to }) → From (vars_of ws n) ends i s → (i - 1 ≤ n) × From (vars_of ws n) ends (i - 1) r
+  pub turn_from : (i : ℕ) {s r : Spans} (x : Entry) (v from to : ℕ) → 0 < i → i ≤ length V → var_in x ≡ var_at V (i - 1) → v ≡ x.a
+      → from ≡ start_of ends (i - 1) → to ≡ get_or ends (i - 1) 0 → r ≡ bound s v (record { from = from; to = to }) → From V ends i s → (i - 1 ≤ length V) × From V ends (i - 1) r
   turn_from i {s} x v from to h l p q a b e f =
       let m : i ≡ suc (i - 1) = omega arith in
-      let named : v ≡ get_or ws (3 * (i - 1) + 1) 0 = q ∙ ap (λ (y : Entry). y.a) p in
-      (omega arith, rw (e, named, a, b) (from_one s (i - 1) (omega arith) (subst (λ (k : ℕ). From (vars_of ws n) ends k s) m f)))
+      let named : v ≡ (var_at V (i - 1)).0 = q ∙ ap (λ (y : ℕ × Var). y.0) p in
+      (omega arith, rw (e, named, a, b) (from_one s (i - 1) (omega arith) (subst (λ (k : ℕ). From V ends k s) m f)))
 
 -- where those of a later variable begin
 pub start_later : (ends : List ℕ) (i : ℕ) → i ≢ 0 → get_or ends (i - 1) 0 ≡ get_or (0 ∷ ends) i 0

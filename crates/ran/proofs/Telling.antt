@@ -1,9 +1,8 @@
 -- For callers: what an accepted answer tells, and what an accepted run was made of.
 -- Assumes nothing.
-use mathlib.Core.Path.{◌≡◌, refl, ap, sym, ◌∙◌}
+use mathlib.Core.Path.{◌≡◌, refl, ap}
 use mathlib.Core.List.{List, ◌++◌}
 use Prim.Native.Nat.{ℕ}
-use native.Mathlib.Omega.{arith}
 use lib.ListN.{length}
 use Rattle.meaning.specs.Base.{Out, ok, refused, padded, Caps}
 use Rattle.meaning.specs.Forests.{size, forest_words}
@@ -11,33 +10,48 @@ use Rattle.meaning.specs.Typing.{root, type_job}
 use Rattle.meaning.specs.Values.{Value, load_values, joined}
 use Rattle.meaning.specs.Running as Running
 use Rattle.meaning.specs.Running.{eval, env_of, run_job}
+use Rattle.std.specs.Prelude as Std
+use Rattle.refusals.specs.declared.Refusal.{Refusal}
+use Rattle.refusals.specs.Says.{number_of}
 use Rattle.reading.specs.Says.{given_of}
 use Rattle.values.proofs.Stepping.{bound}
-use Rattle.ran.specs.declared.Answer.TheVariants.{Accepted, Refused}
 use Rattle.ran.specs.declared.Ran.{Ran}
-use Rattle.ran.specs.Says.{ran_of, Left}
+use Rattle.ran.specs.Says.{seen, ran_of, Left}
 
 -- AN ACCEPTED ANSWER
-pub record Accepts (ww first n result count nodes : ℕ) (r : Ran) (x : List ℕ) (o : Out Running.Ran) : Type 0 where
+pub record Accepts (ww : ℕ) (r : Ran) (x : List ℕ) (o : Out Running.Ran) : Type 0 where
   pub ran : Running.Ran
   pub is : o ≡ ok ran
-  pub first_is : first ≡ size ran.loaded
-  pub length_is : n ≡ size ran.result
-  pub named : result ≡ ran.typed.result
-  pub entries : count ≡ length ran.typed.left.types
-  pub nodes_are : nodes ≡ length ran.typed.job.code
+  pub first_is : r.first ≡ size ran.loaded
+  pub length_is : r.length ≡ size ran.result
+  pub named : r.result ≡ ran.typed.result
+  pub entries : r.types ≡ length ran.typed.left.types
+  pub nodes_are : r.nodes ≡ length ran.typed.job.code
   pub given_is : r.given ≡ given_of ran.typed.job
   pub work : x ≡ padded ww (forest_words ran.loaded ++ forest_words ran.result)
 
-pub told_accepted : {tw cw ww first n result count nodes : ℕ} {r : Ran} {u w x : List ℕ} (o : Out Running.Ran) → Left tw cw ww r u w x o → r.answer ≡ Accepted first n result count nodes → Accepts ww first n result count nodes r x o
-unfolding ran_of
-told_accepted {first = first} {n} {result} {count} {nodes} (ok a) l p =
-    let q : Accepted first n result count nodes ≡ Accepted (size a.loaded) (size a.result) a.typed.result (length a.typed.left.types) (length a.typed.job.code) = sym p ∙ ap (λ (x : Ran). x.answer) l.answer in
-    record { ran = a; is = refl; first_is = cc; length_is = cc; named = cc; entries = cc; nodes_are = cc; given_is = ap (λ (x : Ran). x.given) l.answer; work = l.work }
-told_accepted {first = first} {n} {result} {count} {nodes} (refused m place) l p =
-    let q : Accepted first n result count nodes ≡ Refused m place = sym p ∙ ap (λ (x : Ran). x.answer) l.answer in
-    let z : ◌≡◌ {A = ℕ} 0 1 = cc in
-    absurd (omega arith)
+module _ {tw cw ww : ℕ} {u w x : List ℕ} where
+  pub told_accepted : (o : Out Running.Ran) {r : Ran} → Left tw cw ww (Std.Ok r) u w x o → Accepts ww r x o
+  unfolding ran_of
+  told_accepted (ok a) {r} l =
+      let q : r ≡ seen a = cc (l.answer) in
+      record {
+        ran = a;
+        is = refl;
+        first_is = ap (λ (y : Ran). y.first) q;
+        length_is = ap (λ (y : Ran). y.length) q;
+        named = ap (λ (y : Ran). y.result) q;
+        entries = ap (λ (y : Ran). y.types) q;
+        nodes_are = ap (λ (y : Ran). y.nodes) q;
+        given_is = ap (λ (y : Ran). y.given) q;
+        work = l.work;
+      }
+  told_accepted (refused n place) l = cc (l.answer)
+
+  pub told_refused : (o : Out Running.Ran) {d : Refusal} → Left tw cw ww (Std.Err d) u w x o → o ≡ refused (number_of d.reason) d.place
+  unfolding ran_of
+  told_refused (ok a) l = cc (l.answer)
+  told_refused (refused n place) l = cc (l.answer)
 
 -- AN ACCEPTED RUN: the job was typed, its values were loaded, and its query was evaluated behind them
 pub record Made (caps : Caps) (room : ℕ) (s values : List ℕ) (a : Running.Ran) : Type 0 where

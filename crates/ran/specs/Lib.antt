@@ -1,2 +1,2 @@
--- What running a job answers and leaves, in document 01's terms.
+-- What running a job answers and leaves, in the terms of `meaning`.
 pub mod Says

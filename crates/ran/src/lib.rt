@@ -2,64 +2,29 @@
 #![tactic(auto)]
 
 ghost use Rattle.std.specs.Prelude.{◌≡◌, ◌∷◌, ◌++◌, ◌*◌, ◌≤◌, length, get_or, drop};
-ghost use Rattle.meaning.specs.Base.{refused, zeros, caps_of, type_width, code_width, work_capacity};
+ghost use Rattle.meaning.specs.Base.{zeros, caps_of, type_width, code_width, work_capacity};
 ghost use Rattle.meaning.specs.Formed.{VarsRead};
 ghost use Rattle.meaning.specs.Running.{run_job};
-ghost use Rattle.words.specs.Tables.{vars_of};
-ghost use Rattle.ran.specs.Says.{ran_of, Left, Spread, Begins, Ready, Evaluates, Settles, Answers};
+ghost use Rattle.words.specs.Tables.{code_of, vars_of};
+ghost use Rattle.ran.specs.Says.{Left, Spread, Begins, Ready, Evaluates, Settles, Answers};
 
-use copies::Made;
 use reading::Given;
+use refusals::Refusal;
 use spans::{Span, Spans};
+use tables::{Nodes, Vars};
+use typed::Typed;
+use values::Loaded;
 
-// The result's first entry in the work table and how many entries it has; the entry of its type, and how many type entries and query nodes there are; or
-// a refusal.
-#[derive(Drop)]
-pub enum Answer {
-    Accepted {
-        first: usize,
-        length: usize,
-        result: usize,
-        types: usize,
-        nodes: usize,
-    },
-    Refused {
-        number: u16,
-        place: usize,
-    },
-}
-
-// The answer, with the definitions and the declared variables.
-#[derive(Drop)]
+// The result's first entry in the work table and how many entries it has; the entry of its type, and how many type entries and query nodes there are; with
+// the definitions and the declared variables.
+#[derive(Clone, Copy)]
 pub struct Ran {
-    pub answer: Answer,
+    pub first: usize,
+    pub length: usize,
+    pub result: usize,
+    pub types: usize,
+    pub nodes: usize,
     pub given: Given,
-}
-
-// A refusal, with nothing beside it.
-fn refusal(number: u16, place: usize) -> Ran
-    ensures { result ≡ ran_of (refused number place) }
-{
-    let given = reading::nothing_given();
-    let answer = Answer::Refused { number, place };
-    Ran { answer, given }
-}
-
-// A refusal after typing: so many type entries and query nodes are cleared.
-fn refuse(
-    types: &mut [u16],
-    query: &mut [u16],
-    count: usize,
-    nodes: usize,
-    number: u16,
-    place: usize,
-) -> Ran
-    requires { (type_width * count ≤ length types.old) × (code_width * nodes ≤ length query.old) }
-    ensures { (result ≡ ran_of (refused number place)) × (types.new ≡ zeros (type_width * count) ++ drop (type_width * count) types.old) × (query.new ≡ zeros (code_width * nodes) ++ drop (code_width * nodes) query.old) }
-{
-    words::clear_entries(types, count);
-    words::clear_nodes(query, nodes);
-    refusal(number, place)
 }
 
 // Where the entries of the i-th variable begin: behind those of the one before it.
@@ -67,118 +32,80 @@ fn start(ends: &[u16], i: usize) -> u16
     requires { i ≤ length ends.now }
     ensures { result ≡ get_or (0 ∷ ends.now) i 0 }
 {
-    if i == 0 {
-        return 0;
-    }
-    ends[i - 1]
+    if i == 0 { 0 } else { ends[i - 1] }
 }
 
 // The scope of the declared variables, whose forests end so in the work table.
-fn spread(vars: &[u16], declared: usize, ends: &[u16]) -> Spans
-    requires fact_1 { 3 * declared ≤ length vars.now }
-    requires fact_2 { VarsRead 4096 (vars_of vars.now declared) }
-    requires fact_3 { declared ≤ length ends.now }
-    ensures { Spread (vars_of vars.now declared) ends.now result }
+fn spread(vars: &Vars, ends: &[u16]) -> Spans
+    requires read { VarsRead 4096 vars.now }
+    requires ended { length vars.now ≤ length ends.now }
+    ensures { Spread vars.now ends.now result }
 {
-    let mut from = [0u16; 64];
-    let mut to = [0u16; 64];
-    let mut i = declared;
-    while 0 < i {
-        i -= 1;
-        let x = words::read_entry(vars, i);
-        let v = words::wide(x.a);
-        let a = start(ends, i);
-        let e = ends[i];
-        spans::bind(&mut from, &mut to, v, Span { from: a, to: e });
+    let mut scope = Spans::new();
+    for i in (0..vars.len()).rev() {
+        let x = vars.get(i);
+        let from = start(ends, i);
+        let to = ends[i];
+        scope.bind(usize::from(x.a), Span { from, to });
     }
-    Spans { from, to }
+    scope
 }
 
-// Evaluates the query behind the first so many entries of the work table, which are the values. `held` and `stack` are scratch.
-fn evaluate_with(
-    query: &[u16],
-    nodes: usize,
-    given: Given,
-    ends: &[u16],
-    held: &mut [u16],
-    stack: &mut [u16],
-    work: &mut [u16],
-    count: usize,
-) -> Made
-    requires fact_1 { Ready query.now nodes given }
-    requires fact_2 { Begins given ends.now work.old count }
-    requires fact_3 { length held.old ≡ 24576 }
-    requires fact_4 { length stack.old ≡ 6144 }
-    ensures { Evaluates query.now nodes given ends.now count work.old work.new result }
+// Evaluates the query behind the values that were loaded: how many entries its forest has. The forests held are scratch for a work table of full capacity.
+fn evaluate(code: &Nodes, vars: &Vars, loaded: &Loaded, work: &mut [u16]) -> Result<usize, Refusal>
+    requires ready { Ready code.now vars.now }
+    requires begins { Begins vars.now loaded.now work.old }
+    ensures { Evaluates code.now vars.now loaded.now work.old work.new result }
 {
-    moves::hold(work, count, held, 0);
-    let vars = given.vars;
-    let scope = spread(&vars, given.declared, ends);
+    let mut held = [0u16; 24576];
+    let count = loaded.entries;
+    moves::hold(work, count, &mut held, 0);
+    let scope = spread(vars, &loaded.ends);
     let room = words::work_room(work);
     let first = 3 * count;
     let last = 3 * room;
+    let nodes = code.len();
     let root = nodes - 1;
-    running::eval(
-        query,
-        nodes,
-        scope,
-        held,
-        &mut work[first..last],
-        count,
-        root,
-        stack,
-    )
+    running::eval(code, scope, &mut held, &mut work[first..last], count, root)
 }
 
-// The same with scratch for a work table of full capacity.
-fn evaluate(
-    query: &[u16],
-    nodes: usize,
-    given: Given,
-    ends: &[u16],
-    work: &mut [u16],
-    count: usize,
-) -> Made
-    requires { (Ready query.now nodes given) × (Begins given ends.now work.old count) }
-    ensures { Evaluates query.now nodes given ends.now count work.old work.new result }
+// The type entries and the query nodes of a typed job are cleared.
+fn clear(types: &mut [u16], query: &mut [u16], typed: &Typed)
+    requires types { type_width * typed.now.types ≤ length types.old }
+    requires nodes { code_width * typed.now.nodes ≤ length query.old }
+    ensures types { types.new ≡ zeros (type_width * typed.now.types) ++ drop (type_width * typed.now.types) types.old }
+    ensures nodes { query.new ≡ zeros (code_width * typed.now.nodes) ++ drop (code_width * typed.now.nodes) query.old }
 {
-    let mut held = [0u16; 24576];
-    let mut stack = [0u16; 6144];
-    evaluate_with(
-        query, nodes, given, ends, &mut held, &mut stack, work, count,
-    )
+    words::clear_entries(types, typed.types);
+    words::clear_nodes(query, typed.nodes);
 }
 
-// The answer after the evaluation behind so many entries: the tables stay, or what was written is cleared. At 21 the work table is full.
+// After the evaluation behind so many entries the tables stay, or what was written is cleared. At 21 the work table is full.
 fn settle(
     types: &mut [u16],
     query: &mut [u16],
     work: &mut [u16],
+    typed: Typed,
     first: usize,
-    res: usize,
-    count: usize,
-    nodes: usize,
-    given: Given,
-    made: Made,
-) -> Ran
-    requires fact_1 { type_width * count ≤ length types.old }
-    requires fact_2 { code_width * nodes ≤ length query.old }
-    ensures { Settles types.old query.old work.old first res count nodes given made result types.new query.new work.new }
+    made: Result<usize, Refusal>,
+) -> Result<Ran, Refusal>
+    requires types { type_width * typed.types ≤ length types.old }
+    requires nodes { code_width * typed.nodes ≤ length query.old }
+    ensures { Settles types.old query.old work.old first typed made result types.new query.new work.new }
 {
     match made {
-        Made::Done(length) => {
-            let answer = Answer::Accepted {
-                first,
-                length,
-                result: res,
-                types: count,
-                nodes,
-            };
-            Ran { answer, given }
-        }
-        Made::Full(place) => {
+        Ok(length) => Ok(Ran {
+            first,
+            length,
+            result: typed.result,
+            types: typed.types,
+            nodes: typed.nodes,
+            given: typed.given,
+        }),
+        Err(refusal) => {
             words::clear(work);
-            refuse(types, query, count, nodes, 21, place)
+            clear(types, query, &typed);
+            Err(refusal)
         }
     }
 }
@@ -189,26 +116,24 @@ fn run_typed(
     types: &mut [u16],
     query: &mut [u16],
     work: &mut [u16],
-    res: usize,
-    count: usize,
-    nodes: usize,
-    given: Given,
-) -> Ran
-    requires fact_1 { Ready query.old nodes given }
-    requires fact_2 { type_width * count ≤ length types.old }
-    ensures { Answers values.now types.old query.old (length work.old) res count nodes given result types.new query.new work.new }
+    typed: Typed,
+) -> Result<Ran, Refusal>
+    requires ready { Ready (code_of query.old typed.nodes) (vars_of typed.given.vars typed.given.declared) }
+    requires types { type_width * typed.types ≤ length types.old }
+    requires nodes { code_width * typed.nodes ≤ length query.old }
+    requires vars { 3 * typed.given.declared ≤ length typed.given.vars }
+    ensures { Answers values.now types.old query.old (length work.old) typed result types.new query.new work.new }
 {
-    let vars = given.vars;
-    let loaded = values::load(values, &vars, given.declared, work);
-    let told = loaded.answer;
-    let ends = loaded.ends;
-    match told {
-        values::Answer::Refused { number, place } => {
-            refuse(types, query, count, nodes, number, place)
+    let vars = Vars::new(&typed.given.vars, typed.given.declared);
+    match values::load(values, &vars, work) {
+        Ok(loaded) => {
+            let code = Nodes::new(query, typed.nodes);
+            let made = evaluate(&code, &vars, &loaded, work);
+            settle(types, query, work, typed, loaded.entries, made)
         }
-        values::Answer::Values { entries } => {
-            let made = evaluate(query, nodes, given, &ends, work, entries);
-            settle(types, query, work, entries, res, count, nodes, given, made)
+        Err(refusal) => {
+            clear(types, query, &typed);
+            Err(refusal)
         }
     }
 }
@@ -220,21 +145,14 @@ pub fn run_job(
     types: &mut [u16],
     query: &mut [u16],
     work: &mut [u16],
-) -> Ran
+) -> Result<Ran, Refusal>
     ensures { Left (length types.old) (length query.old) (length work.old) result types.new query.new work.new (run_job (caps_of (length types.old) (length query.old)) (work_capacity (length work.old)) job.now values.now) }
 {
-    let typed = typed::type_job(job, types, query);
-    let told = typed.answer;
-    let given = typed.given;
-    match told {
-        typed::Answer::Refused { number, place } => {
+    match typed::type_job(job, types, query) {
+        Ok(typed) => run_typed(values, types, query, work, typed),
+        Err(untyped) => {
             words::clear(work);
-            refusal(number, place)
+            Err(untyped)
         }
-        typed::Answer::Accepted {
-            result,
-            types: count,
-            nodes,
-        } => run_typed(values, types, query, work, result, count, nodes, given),
     }
 }

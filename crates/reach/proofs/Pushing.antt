@@ -17,10 +17,6 @@ pub grew_none : (count left : ℕ) (ms : List ℕ) → Grew count ms ms left lef
 grew_none count left ms =
     record { long = refl; room = refl; more = omega arith; kept = λ i l h. h; new = λ i l h. inl h; same = λ j l. refl; added = λ j l h. absurd (omega arith); done = λ x. in_none }
 
-pub grew_old : (count left : ℕ) (ms : List ℕ) (e : ℕ) → Seen ms e → Grew count ms ms left left (e ∷ [])
-grew_old count left ms e s =
-    record { long = refl; room = refl; more = omega arith; kept = λ i l h. h; new = λ i l h. inl h; same = λ j l. refl; added = λ j l h. absurd (omega arith); done = in_cons s (λ x. in_none) }
-
 -- one that has no mark
 module _ {count left e : ℕ} {ms : List ℕ} (low : e < count) (r : Room ms count left) (free : get_or ms e 0 ≡ 0) where
   pub push_room : left < count
@@ -98,9 +94,6 @@ grew_two {count} {left} {m} {r} {a} {b} {ms} {ns} {os} low g h =
     adds : (j : ℕ) → left ≤ j → j < r → Dec (j < m) → In (get_or os (count + j) 0) (a ∷ b ∷ [])
     adds j l k (yes p) = wider (get_or os (count + j) 0) (rw (h.same j p) (g.added j l p))
     adds j l k (no p) = second (get_or os (count + j) 0) (h.added j (omega arith) k)
-
-pub grew_room : {count left r : ℕ} {ms ns xs : List ℕ} → Room ms count left → Grew count ms ns left r xs → Room ns count r
-grew_room h g = record { most = h.most; long = omega (arith, h.long, g.long); few = omega (arith, h.few, g.room) }
 
 pub grew_by : {count left r : ℕ} {ms ns xs ys : List ℕ} → ys ≡ xs → Grew count ms ns left r xs → Grew count ms ns left r ys
 grew_by p g = rw p g

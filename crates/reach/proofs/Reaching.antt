@@ -11,18 +11,17 @@ use native.Mathlib.Decide.{ℕ_discrete, dec_lt}
 use lib.ListN.{length, get_or, take, drop, get_or-replicate, get_or-append}
 use lib.Seq.{length-take-le, length_front, ext_get_or}
 use Rattle.meaning.specs.Base.{In, first, later, zeros}
-use Rattle.meaning.specs.Types.{Table, Defs, entry_of, at}
+use Rattle.meaning.specs.Types.{Table, Defs, at}
 use Rattle.meaning.specs.Reach.{steps_of, reached}
+use Rattle.meaning.specs.Formed.{Formed}
 use Rattle.meaning.proofs.Reach as Reach
-use Rattle.words.specs.Tables.{table_of}
 use Rattle.words.proofs.Rows.{zeros_length}
-use Rattle.words.specs.declared.Entry as Words
-use Rattle.words.proofs.Entries.{words_make}
-use Rattle.words.proofs.Tables.{table_length, table_at}
-use Rattle.reach.specs.Marks.{marks_of, blank, Seen, Listed, Room, Grew, Given, Within, Reached}
+use Rattle.entries.specs.Says.{shown}
+use Rattle.entries.specs.declared.Ty.{Ty}
+use Rattle.reach.specs.Marks.{marks_of, blank, Seen, Listed, Room, Grew, Within}
 use Rattle.reach.proofs.Marks.{marks_length, unmarked_at, marked_at, blank_none}
 use Rattle.reach.proofs.Pushing.{listed_more, grew_by}
-use Rattle.reach.proofs.Steps.{given_alike, given_inside, entry_within}
+use Rattle.reach.proofs.Steps.{formed_within}
 
 -- THE START: the front of a table cleared
 module _ (ms ys : List ℕ) (count : ℕ) (room : count ≤ length ms) (cleared : ys ≡ zeros (length (take count ms))) where
@@ -46,21 +45,14 @@ seen? ms i = go (ℕ_discrete (get_or ms i 0) 0)
     go (yes p) = inr p
     go (no p) = inl p
 
-module _ {types defs : List ℕ} {count : ℕ} {D : Defs} (g : Given types count defs D) (e : ℕ) (low : e < count) where
-  abbrev T : Table
-  T = table_of types count
-
-  -- what stands in an entry, by the definitions that are lent
+module _ (D : Defs) (T : Table) (count e : ℕ) where
   abbrev steps : ℕ → List ℕ
-  steps i = steps_of true defs (at T i)
-
-  steps_low : (i : ℕ) → i < count → (x : ℕ) → In x (steps i) → x < count
-  steps_low i l x h = (entry_within g i l).parts x (rw (given_alike g i l) at h)
+  steps i = steps_of true D (at T i)
 
   abbrev Goal : ℕ → Type 0
   Goal i = Reach.Marked (reached true D T e) i
 
-  -- WHERE THE LOOP HAS COME TO
+  -- WHERE THE LOOP HAS COME TO, among so many entries, from entry e
   pub record Visiting (before ms : List ℕ) (left : ℕ) : Type 0 where
     pub long : length ms ≡ length before
     pub room : Room ms count left
@@ -69,154 +61,150 @@ module _ {types defs : List ℕ} {count : ℕ} {D : Defs} (g : Given types count
     pub listed : (j : ℕ) → j < left → (get_or ms (count + j) 0 < count) × Seen ms (get_or ms (count + j) 0)
     pub closed : (i : ℕ) → i < count → Seen ms i → Listed count ms left i ⊎ ((x : ℕ) → In x (steps i) → Seen ms x)
 
-  pub visiting_start : {before ms ns : List ℕ} {left : ℕ} → length ms ≡ length before → Room ms count 0 → ((i : ℕ) → i < count → get_or ms i 0 ≡ 0) → Grew count ms ns 0 left (e ∷ []) → Visiting before ns left
-  visiting_start {ms = ms} {ns} {left} l r none w =
-      record {
-        long = w.long ∙ l;
-        room = record { most = r.most; long = omega (arith, r.long, w.long); few = omega (arith, r.few, w.room) };
-        self = w.done e first;
-        sound = λ i k s. only i (w.new i k s) k;
-        listed = λ j k. let a = w.added j (omega arith) k in alone (get_or ns (count + j) 0) a;
-        closed = λ i k s. held i k (w.new i k s);
-      }
-    where
-      alone : (x : ℕ) → In x (e ∷ []) → (x < count) × Seen ns x
-      alone x first = (low, w.done e first)
-      alone x (later h) = elim h [ ]
+  module _ (F : Formed D T) (size : length T ≡ count) (low : e < count) where
+    within : (i : ℕ) → i < count → Within count D (at T i)
+    within i l = rw size at (formed_within F i (rw size l))
 
-      only : (i : ℕ) → Seen ms i ⊎ (In i (e ∷ []) × Listed count ns left i) → i < count → Goal i
-      only i (inl s) k = absurd (s (none i k))
-      only i (inr p) k = start i p.0
-        where
-          start : (x : ℕ) → In x (e ∷ []) → Goal x
-          start x first = Reach.reached_self true D T e (rw table_length low)
-          start x (later h) = elim h [ ]
+    steps_low : (i : ℕ) → i < count → (x : ℕ) → In x (steps i) → x < count
+    steps_low i l x h = (within i l).parts x h
 
-      held : (i : ℕ) → i < count → Seen ms i ⊎ (In i (e ∷ []) × Listed count ns left i) → Listed count ns left i ⊎ ((x : ℕ) → In x (steps i) → Seen ns x)
-      held i k (inl s) = absurd (s (none i k))
-      held i k (inr p) = inl p.1
-
-  -- one more visited
-  module _ {before ms ns : List ℕ} {next r x : ℕ} (v : Visiting before ms (suc next)) (is : x ≡ get_or ms (count + next) 0) (w : Grew count ms ns next r (steps x)) where
-    pub at_low : x < count
-    at_low = omega (arith, is, (v.listed next (omega arith)).0)
-
-    at_seen : Seen ms x
-    at_seen = subst (Seen ms) (sym is) (v.listed next (omega arith)).1
-
-    closed_on : (i : ℕ) → i < count → Seen ms i → Listed count ms (suc next) i ⊎ ((y : ℕ) → In y (steps i) → Seen ms y) → Listed count ns r i ⊎ ((y : ℕ) → In y (steps i) → Seen ns y)
-    closed_on i k s (inr h) = inr (λ y a. w.kept y (steps_low i k y a) (h y a))
-    closed_on i k s (inl h) = go (dec_lt h.place next)
-      where
-        go : Dec (h.place < next) → Listed count ns r i ⊎ ((y : ℕ) → In y (steps i) → Seen ns y)
-        go (yes p) = inl (listed_more {ms = ms} w.more w.same (record { place = h.place; low = p; is = h.is }))
-        go (no p) =
-            let z : h.place ≡ next = omega (arith, h.low) in
-            let q : x ≡ i = is ∙ ap (λ (j : ℕ). get_or ms (count + j) 0) (sym z) ∙ h.is in
-            inr (λ y a. w.done y (subst (λ (j : ℕ). In y (steps j)) (sym q) a))
-
-    pub visiting_more : Visiting before ns r
-    visiting_more =
+    pub visiting_start : {before ms ns : List ℕ} {left : ℕ} → length ms ≡ length before → Room ms count 0 → ((i : ℕ) → i < count → get_or ms i 0 ≡ 0) → Grew count ms ns 0 left (e ∷ []) → Visiting before ns left
+    visiting_start {ms = ms} {ns} {left} l r none w =
         record {
-          long = w.long ∙ v.long;
-          room = record { most = v.room.most; long = omega (arith, v.room.long, w.long); few = omega (arith, v.room.few, w.room) };
-          self = w.kept e low v.self;
-          sound = λ i k s. sound_on i k (w.new i k s);
-          listed = λ j k. listed_on j k (dec_lt j next);
-          closed = λ i k s. closing i k (w.new i k s);
+          long = w.long ∙ l;
+          room = record { most = r.most; long = omega (arith, r.long, w.long); few = omega (arith, r.few, w.room) };
+          self = w.done e first;
+          sound = λ i k s. only i (w.new i k s) k;
+          listed = λ j k. let a = w.added j (omega arith) k in alone (get_or ns (count + j) 0) a;
+          closed = λ i k s. held i k (w.new i k s);
         }
       where
-        sound_on : (i : ℕ) → i < count → Seen ms i ⊎ (In i (steps x) × Listed count ns r i) → Goal i
-        sound_on i k (inl s) = v.sound i k s
-        sound_on i k (inr p) =
-            Reach.reached_closed true D T e (rw table_length low) x i (rw table_length at_low) (v.sound x at_low at_seen) (rw (given_alike g x at_low) at p.0) (rw (Reach.reached_length true D T e (rw table_length low), table_length types count) k)
+        alone : (x : ℕ) → In x (e ∷ []) → (x < count) × Seen ns x
+        alone x first = (low, w.done e first)
+        alone x (later h) = elim h [ ]
 
-        listed_on : (j : ℕ) → j < r → Dec (j < next) → (get_or ns (count + j) 0 < count) × Seen ns (get_or ns (count + j) 0)
-        listed_on j k (yes p) = rw (w.same j p) ((v.listed j (omega arith)).0, w.kept (get_or ms (count + j) 0) (v.listed j (omega arith)).0 (v.listed j (omega arith)).1)
-        listed_on j k (no p) = let a = w.added j (omega arith) k in (steps_low x at_low (get_or ns (count + j) 0) a, w.done (get_or ns (count + j) 0) a)
-
-        closing : (i : ℕ) → i < count → Seen ms i ⊎ (In i (steps x) × Listed count ns r i) → Listed count ns r i ⊎ ((y : ℕ) → In y (steps i) → Seen ns y)
-        closing i k (inl s) = closed_on i k s (v.closed i k s)
-        closing i k (inr p) = inl p.1
-
-  -- THE END: nothing is left to visit
-  module _ {before ms : List ℕ} (v : Visiting before ms 0) where
-    complete : (x : ℕ) → Goal x → Seen ms x
-    complete = Reach.reached_least true D T e (rw table_length low) (Seen ms) (λ i y l s a. shut i y (rw table_length at l) s a) v.self
-      where
-        shut : (i y : ℕ) → i < count → Seen ms i → In y (steps_of true D (at T i)) → Seen ms y
-        shut i y l s a = go (v.closed i l s)
+        only : (i : ℕ) → Seen ms i ⊎ (In i (e ∷ []) × Listed count ns left i) → i < count → Goal i
+        only i (inl s) k = absurd (s (none i k))
+        only i (inr p) k = start i p.0
           where
-            go : Listed count ms 0 i ⊎ ((x : ℕ) → In x (steps i) → Seen ms x) → Seen ms y
-            go (inl h) = absurd (omega (arith, h.low))
-            go (inr h) = h y (rw (given_alike g i l) a)
+            start : (x : ℕ) → In x (e ∷ []) → Goal x
+            start x first = Reach.reached_self true D T e (rw size low)
+            start x (later h) = elim h [ ]
 
-    abbrev R : List Bool
-    R = reached true D T e
+        held : (i : ℕ) → i < count → Seen ms i ⊎ (In i (e ∷ []) × Listed count ns left i) → Listed count ns left i ⊎ ((x : ℕ) → In x (steps i) → Seen ns x)
+        held i k (inl s) = absurd (s (none i k))
+        held i k (inr p) = inl p.1
 
-    same_at : (i : ℕ) → i < count → get_or (marks_of count ms) i false ≡ get_or R i false
-    same_at i l = go (seen? ms i)
-      where
-        unreached : (b : Bool) → get_or R i false ≡ b → get_or ms i 0 ≡ 0 → false ≡ get_or R i false
-        unreached true q p = absurd (complete i q p)
-        unreached false q p = sym q
+    -- one more visited
+    module _ {before ms ns : List ℕ} {next r x : ℕ} (v : Visiting before ms (suc next)) (is : x ≡ get_or ms (count + next) 0) (w : Grew count ms ns next r (steps x)) where
+      pub at_low : x < count
+      at_low = omega (arith, is, (v.listed next (omega arith)).0)
 
-        go : Seen ms i ⊎ (get_or ms i 0 ≡ 0) → get_or (marks_of count ms) i false ≡ get_or R i false
-        go (inl s) = marked_at count ms i l s ∙ sym (v.sound i l s)
-        go (inr p) = unmarked_at count ms i l p ∙ unreached (get_or R i false) refl p
+      at_seen : Seen ms x
+      at_seen = subst (Seen ms) (sym is) (v.listed next (omega arith)).1
 
-    pub visiting_end : marks_of count ms ≡ reached true D T e
-    visiting_end = ext_get_or false (marks_of count ms) R (marks_length count ms ∙ sym (Reach.reached_length true D T e (rw table_length low) ∙ table_length types count)) (λ i l. same_at i (omega (arith, marks_length count ms)))
+      closed_on : (i : ℕ) → i < count → Seen ms i → Listed count ms (suc next) i ⊎ ((y : ℕ) → In y (steps i) → Seen ms y) → Listed count ns r i ⊎ ((y : ℕ) → In y (steps i) → Seen ns y)
+      closed_on i k s (inr h) = inr (λ y a. w.kept y (steps_low i k y a) (h y a))
+      closed_on i k s (inl h) = go (dec_lt h.place next)
+        where
+          go : Dec (h.place < next) → Listed count ns r i ⊎ ((y : ℕ) → In y (steps i) → Seen ns y)
+          go (yes p) = inl (listed_more {ms = ms} w.more w.same (record { place = h.place; low = p; is = h.is }))
+          go (no p) =
+              let z : h.place ≡ next = omega (arith, h.low) in
+              let q : x ≡ i = is ∙ ap (λ (j : ℕ). get_or ms (count + j) 0) (sym z) ∙ h.is in
+              inr (λ y a. w.done y (subst (λ (j : ℕ). In y (steps j)) (sym q) a))
 
--- THE DEFINITIONS IN USE: whichever they are
-pub record Anyhow (types : List ℕ) (count : ℕ) (defs : List ℕ) (e : ℕ) (before ms : List ℕ) (left : ℕ) : Type 0 where
-  pub is : (D : Defs) (g : Given types count defs D) (low : e < count) → Visiting g e low before ms left
+      pub visiting_more : Visiting before ns r
+      visiting_more =
+          record {
+            long = w.long ∙ v.long;
+            room = record { most = v.room.most; long = omega (arith, v.room.long, w.long); few = omega (arith, v.room.few, w.room) };
+            self = w.kept e low v.self;
+            sound = λ i k s. sound_on i k (w.new i k s);
+            listed = λ j k. listed_on j k (dec_lt j next);
+            closed = λ i k s. closing i k (w.new i k s);
+          }
+        where
+          sound_on : (i : ℕ) → i < count → Seen ms i ⊎ (In i (steps x) × Listed count ns r i) → Goal i
+          sound_on i k (inl s) = v.sound i k s
+          sound_on i k (inr p) =
+              Reach.reached_closed true D T e (rw size low) x i (rw size at_low) (v.sound x at_low at_seen) p.0 (rw (Reach.reached_length true D T e (rw size low), size) k)
+
+          listed_on : (j : ℕ) → j < r → Dec (j < next) → (get_or ns (count + j) 0 < count) × Seen ns (get_or ns (count + j) 0)
+          listed_on j k (yes p) = rw (w.same j p) ((v.listed j (omega arith)).0, w.kept (get_or ms (count + j) 0) (v.listed j (omega arith)).0 (v.listed j (omega arith)).1)
+          listed_on j k (no p) = let a = w.added j (omega arith) k in (steps_low x at_low (get_or ns (count + j) 0) a, w.done (get_or ns (count + j) 0) a)
+
+          closing : (i : ℕ) → i < count → Seen ms i ⊎ (In i (steps x) × Listed count ns r i) → Listed count ns r i ⊎ ((y : ℕ) → In y (steps i) → Seen ns y)
+          closing i k (inl s) = closed_on i k s (v.closed i k s)
+          closing i k (inr p) = inl p.1
+
+    -- THE END: nothing is left to visit
+    module _ {before ms : List ℕ} (v : Visiting before ms 0) where
+      complete : (x : ℕ) → Goal x → Seen ms x
+      complete = Reach.reached_least true D T e (rw size low) (Seen ms) (λ i y l s a. shut i y (rw size at l) s a) v.self
+        where
+          shut : (i y : ℕ) → i < count → Seen ms i → In y (steps_of true D (at T i)) → Seen ms y
+          shut i y l s a = go (v.closed i l s)
+            where
+              go : Listed count ms 0 i ⊎ ((x : ℕ) → In x (steps i) → Seen ms x) → Seen ms y
+              go (inl h) = absurd (omega (arith, h.low))
+              go (inr h) = h y a
+
+      abbrev R : List Bool
+      R = reached true D T e
+
+      same_at : (i : ℕ) → i < count → get_or (marks_of count ms) i false ≡ get_or R i false
+      same_at i l = go (seen? ms i)
+        where
+          unreached : (b : Bool) → get_or R i false ≡ b → get_or ms i 0 ≡ 0 → false ≡ get_or R i false
+          unreached true q p = absurd (complete i q p)
+          unreached false q p = sym q
+
+          go : Seen ms i ⊎ (get_or ms i 0 ≡ 0) → get_or (marks_of count ms) i false ≡ get_or R i false
+          go (inl s) = marked_at count ms i l s ∙ sym (v.sound i l s)
+          go (inr p) = unmarked_at count ms i l p ∙ unreached (get_or R i false) refl p
+
+      pub visiting_end : marks_of count ms ≡ reached true D T e
+      visiting_end = ext_get_or false (marks_of count ms) R (marks_length count ms ∙ sym (Reach.reached_length true D T e (rw size low) ∙ size)) (λ i l. same_at i (omega (arith, marks_length count ms)))
+
+    -- one that is to be visited
+    module _ {before ms : List ℕ} {left next : ℕ} (one : left ≡ suc next) (v : Visiting before ms left) where
+      here : Visiting before ms (suc next)
+      here = subst (Visiting before ms) one v
+
+      pub next_room : Room ms count next
+      next_room = record { most = here.room.most; long = here.room.long; few = omega (arith, here.room.few) }
+
+      pub next_place : count + next < length ms
+      next_place = omega (arith, here.room.long, here.room.few)
+
+      pub next_small : count + next ≤ 8192
+      next_small = omega (arith, here.room.most, here.room.few)
+
+      module _ {y : ℕ} (is : y ≡ get_or ms (count + next) 0) where
+        entry_low : y < count
+        entry_low = omega (arith, is, (here.listed next (omega arith)).0)
+
+        pub next_inside : y < length T
+        next_inside = rw size entry_low
+
+        -- the entry that is visited, as it was read
+        module _ (x : Ty) (read : shown x ≡ at T y) where
+          pub next_within : Within count D (shown x)
+          next_within = rw read (within y entry_low)
+
+          pub next_visited : {ns : List ℕ} {r : ℕ} → Grew count ms ns next r (steps_of true D (shown x)) → Visiting before ns r
+          next_visited w = visiting_more here is (grew_by (ap (steps_of true D) (sym read)) w)
+
+pub start_room : {D : Defs} {T : Table} {count : ℕ} (ms ys : List ℕ) → Formed D T → length T ≡ count → 2 * count ≤ length ms → ys ≡ zeros (length (take count ms)) → Room (ys ++ drop count ms) count 0
+start_room {count = count} ms ys F size l c = record { most = omega (arith, F.few, size); long = omega (arith, cleared_length ms ys count (omega arith) c); few = omega (arith, blank_none count (ys ++ drop count ms)) }
 
 pub left_over : ℕ → List ℕ → ℕ → ℕ
 left_over count ms left = 2 * blank count ms + left
 
-module _ {types defs : List ℕ} {count : ℕ} where
-  pub anyhow_start : {e : ℕ} (ms ys : List ℕ) {ns : List ℕ} {left : ℕ} → count ≤ length ms → ys ≡ zeros (length (take count ms)) → Room (ys ++ drop count ms) count 0 → Grew count (ys ++ drop count ms) ns 0 left (e ∷ []) → Anyhow types count defs e ns ns left
-  anyhow_start {e} ms ys l c r w = record { is = λ D g low. visiting_start g e low (sym w.long) r (front_at ms ys count l c) w }
-
-  pub start_room : {D : Defs} (ms ys : List ℕ) → Given types count defs D → 2 * count ≤ length ms → ys ≡ zeros (length (take count ms)) → Room (ys ++ drop count ms) count 0
-  start_room ms ys g l c = record { most = omega (arith, g.formed.few, table_length types count); long = omega (arith, cleared_length ms ys count (omega arith) c); few = omega (arith, blank_none count (ys ++ drop count ms)) }
-
-  module _ {e : ℕ} {before ms : List ℕ} {left next : ℕ} (one : left ≡ suc next) (a : Anyhow types count defs e before ms left) {D : Defs} (g : Given types count defs D) (low : e < count) where
-    here : Visiting g e low before ms (suc next)
-    here = subst (Visiting g e low before ms) one (a.is D g low)
-
-    pub anyhow_room : Room ms count next
-    anyhow_room = record { most = here.room.most; long = here.room.long; few = omega (arith, here.room.few) }
-
-    pub anyhow_place : count + next < length ms
-    anyhow_place = omega (arith, here.room.long, here.room.few)
-
-    pub anyhow_small : count + next ≤ 8192
-    anyhow_small = omega (arith, here.room.most, here.room.few)
-
-    pub anyhow_low : {x : ℕ} → x ≡ get_or ms (count + next) 0 → x < count
-    anyhow_low is = omega (arith, is, (here.listed next (omega arith)).0)
-
-    pub anyhow_more : {x : ℕ} {ns : List ℕ} {r : ℕ} → x ≡ get_or ms (count + next) 0 → Grew count ms ns next r (steps_of true defs (at (table_of types count) x)) → Anyhow types count defs e before ns r
-    anyhow_more is w = record { is = λ E h l. visiting_more h e l (subst (Visiting h e l before ms) one (a.is E h l)) is w }
-
-    -- the entry that is visited, by its words
-    module _ {x : ℕ} {w : Words.Entry} (is : x ≡ get_or ms (count + next) 0) (read : w ≡ record { kind = get_or types (3 * x) 0; a = get_or types (3 * x + 1) 0; b = get_or types (3 * x + 2) 0 }) where
-      read_is : entry_of w.kind w.a w.b ≡ at (table_of types count) x
-      read_is = words_make types x w read ∙ sym (table_at types count x (anyhow_low is))
-
-      pub anyhow_within : Within count defs (entry_of w.kind w.a w.b)
-      anyhow_within = subst (Within count defs) (sym (words_make types x w read)) ((given_inside g).within x (anyhow_low is))
-
-      pub anyhow_visited : {ns : List ℕ} {r : ℕ} → Grew count ms ns next r (steps_of true defs (entry_of w.kind w.a w.b)) → Anyhow types count defs e before ns r
-      anyhow_visited {ns} {r} v = anyhow_more is (grew_by (ap (steps_of true defs) (sym read_is)) v)
-
-      pub anyhow_inside : 3 * x + 3 ≤ length types
-      anyhow_inside = omega (arith, g.inside, anyhow_low is)
-
-  pub anyhow_end : {e : ℕ} {before ms : List ℕ} {left : ℕ} → left ≤ 0 → e < count → Anyhow types count defs e before ms left → Reached types count defs e ms
-  anyhow_end {e} {before} {ms} {left} z low a = record { marks = λ D g. visiting_end g e low (subst (Visiting g e low before ms) {x = left} {y = 0} (omega arith) (a.is D g low)) }
+-- where nothing is left
+pub none_left : {D : Defs} {T : Table} {count e left : ℕ} {before ms : List ℕ} → left ≤ 0 → Visiting D T count e before ms left → Visiting D T count e before ms 0
+none_left {D} {T} {count} {e} {left} {before} {ms} z v = subst (Visiting D T count e before ms) {x = left} {y = 0} (omega (arith, z)) v
 
 pub one_left : {left : ℕ} → 0 < left → left ≡ suc (left - 1)
 one_left h = omega arith

@@ -1,12 +1,10 @@
--- Marks of entries in a lent table, a word for each entry, as `meaning` has them; what is given to mark them; what each function leaves.
+-- Marks of entries in a lent table, a word for each entry, as `meaning` has them; what is given to mark them; what marking leaves.
 -- Assumes nothing.
-use Rattle.std.specs.Prelude.{◌≡◌, Bool, true, false, not, cond, List, [], ◌∷◌, ◌⊎◌, ℕ, zero, suc, ◌+◌, ◌*◌, ◌≤◌, ◌<◌, eqb, length, get_or, take}
+use Rattle.std.specs.Prelude.{◌≡◌, Bool, true, false, not, cond, List, [], ◌∷◌, ◌⊎◌, ℕ, zero, suc, ◌+◌, ◌*◌, ◌≤◌, ◌<◌, eqb, length, get_or}
 use Rattle.std.proofs.Math.Option.{some}
-use Rattle.meaning.specs.Base.{In, type_width}
+use Rattle.meaning.specs.Base.{In}
 use Rattle.meaning.specs.Types.{Entry, Defs, name_of}
-use Rattle.meaning.specs.Reach.{steps_of, reached}
-use Rattle.meaning.specs.Formed.{Formed}
-use Rattle.words.specs.Tables.{entry_at, table_of}
+use Rattle.meaning.specs.Reach.{steps_of}
 
 -- the marks of the first n entries: a word that is not 0 is a mark
 unfoldable pub marks_of : ℕ → List ℕ → List Bool
@@ -18,18 +16,6 @@ marks_of (suc n) (w ∷ ws) = not (eqb w 0) ∷ marks_of n ws
 pub record Within (n : ℕ) (D : Defs) (x : Entry) : Type 0 where
   pub parts : (i : ℕ) → In i (steps_of true D x) → i < n
   pub named : (d : ℕ) → name_of x ≡ some d → d < length D
-
--- a lent table whose first entries are all so
-pub record Inside (types : List ℕ) (count : ℕ) (D : Defs) : Type 0 where
-  pub inside : type_width * count ≤ length types
-  pub within : (e : ℕ) → e < count → Within count D (entry_at types e)
-
--- a lent type table, and a lent table of definitions that begins with the definitions D, as reading leaves them and typing keeps them
-pub record Given (types : List ℕ) (count : ℕ) (defs : List ℕ) (D : Defs) : Type 0 where
-  pub inside : type_width * count ≤ length types
-  pub formed : Formed D (table_of types count)
-  pub listed : length D ≤ length defs
-  pub taken : D ≡ take (length D) defs
 
 -- how many of the first n entries have no mark
 unfoldable pub blank : ℕ → List ℕ → ℕ
@@ -61,7 +47,3 @@ pub record Grew (count : ℕ) (before after : List ℕ) (left r : ℕ) (xs : Lis
   pub same : (j : ℕ) → j < left → get_or after (count + j) 0 ≡ get_or before (count + j) 0
   pub added : (j : ℕ) → left ≤ j → j < r → In (get_or after (count + j) 0) xs
   pub done : (x : ℕ) → In x xs → Seen after x
-
--- what entry e reaches is marked
-pub record Reached (types : List ℕ) (count : ℕ) (defs : List ℕ) (e : ℕ) (after : List ℕ) : Type 0 where
-  pub marks : (D : Defs) → Given types count defs D → marks_of count after ≡ reached true D (table_of types count) e

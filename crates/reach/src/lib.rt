@@ -1,21 +1,24 @@
 // What a type entry reaches, elements entered, as a mark for each entry; and the atoms among it that pass a test, by increasing entry number.
 #![tactic(auto)]
 
-ghost use Rattle.std.specs.Prelude.{◌≡◌, true, [], ◌∷◌, ℕ, ◌+◌, ◌*◌, ◌≤◌, ◌<◌, length};
-ghost use Rattle.meaning.specs.Base.{type_width};
-ghost use Rattle.meaning.specs.Types.{Defs, entry_of, head_of};
-ghost use Rattle.meaning.specs.Reach.{steps_of, atom_passes};
-ghost use Rattle.words.specs.Tables.{table_of};
-ghost use Rattle.reach.specs.Marks.{marks_of, Within, Given, Room, Grew, Reached};
+ghost use Rattle.std.specs.Prelude.{◌≡◌, true, [], ◌∷◌, ◌*◌, ◌≤◌, ◌<◌, length};
+ghost use Rattle.meaning.specs.Types.{head_of};
+ghost use Rattle.meaning.specs.Reach.{steps_of, reached, atom_passes};
+ghost use Rattle.meaning.specs.Formed.{Formed};
+ghost use Rattle.entries.specs.Says.{shown};
+ghost use Rattle.reach.specs.Marks.{marks_of, Within, Room, Grew};
 ghost use Rattle.reach.specs.Atoms.{picked, Next};
 
+use entries::Ty;
+use tables::Types;
 use words::Head;
 
 // Marks an entry and puts it behind those that are to be visited, if it has no mark yet; how many are to be visited then. They stand behind the first
 // `count` marks.
+// kept: marks and what is to be visited in one lent table of words (fixed memory)
 fn push(marks: &mut [u16], count: usize, left: usize, e: usize) -> usize
-    requires fact_1 { e < count }
-    requires fact_2 { Room marks.old count left }
+    requires low { e < count }
+    requires room { Room marks.old count left }
     ensures { Grew count marks.old marks.new left result (e ∷ []) }
 {
     if marks[e] != 0 {
@@ -27,97 +30,72 @@ fn push(marks: &mut [u16], count: usize, left: usize, e: usize) -> usize
     left + 1
 }
 
-// The same for two.
-fn push_two(marks: &mut [u16], count: usize, left: usize, a: usize, b: usize) -> usize
-    requires fact_1 { a < count }
-    requires fact_2 { b < count }
-    requires fact_3 { Room marks.old count left }
-    ensures { Grew count marks.old marks.new left result (a ∷ b ∷ []) }
-{
-    let more = push(marks, count, left, a);
-    push(marks, count, more, b)
-}
-
 // The same for what stands directly in an entry: an element's child; both children of a pair or union; the child of star, plus and opt; a name's
 // definition.
-fn visit(
-    kind: u16,
-    a: u16,
-    b: u16,
-    defs: &[u16],
-    marks: &mut [u16],
-    count: usize,
-    left: usize,
-) -> usize
-    requires fact_1 { Within count defs.now (entry_of kind a b) }
-    requires fact_2 { Room marks.old count left }
-    ensures { Grew count marks.old marks.new left result (steps_of true defs.now (entry_of kind a b)) }
+fn visit(x: Ty, defs: &[u16], marks: &mut [u16], count: usize, left: usize) -> usize
+    requires within { Within count defs.now (shown x) }
+    requires room { Room marks.old count left }
+    ensures { Grew count marks.old marks.new left result (steps_of true defs.now (shown x)) }
 {
-    match kind {
-        3 => push(marks, count, left, b as usize),
-        4 | 5 => push_two(marks, count, left, a as usize, b as usize),
-        6 | 7 | 8 => push(marks, count, left, a as usize),
-        9 => push(marks, count, left, words::wide(defs[a as usize])),
-        _ => left,
+    match x {
+        Ty::Empty | Ty::Text => left,
+        Ty::Element(_, c) => push(marks, count, left, usize::from(c)),
+        Ty::Pair(a, b) | Ty::Union(a, b) => {
+            let more = push(marks, count, left, usize::from(a));
+            push(marks, count, more, usize::from(b))
+        }
+        Ty::Star(a) | Ty::Plus(a) | Ty::Opt(a) => push(marks, count, left, usize::from(a)),
+        Ty::Name(d) => push(marks, count, left, usize::from(defs[usize::from(d)])),
     }
 }
 
-// Marks what entry e reaches, itself too, and nothing else among the first `count`. Each entry that is marked is visited once.
-pub fn reach(types: &[u16], count: usize, defs: &[u16], e: usize, marks: &mut [u16])
-    requires fact_1 { ((D : Defs) × Given types.now count defs.now D) }
-    requires fact_2 { e < count }
-    requires fact_3 { 2 * count ≤ length marks.old }
-    ensures { Reached types.now count defs.now e marks.new }
+// Marks what entry e reaches, itself too, and nothing else among the entries. Each entry that is marked is visited once.
+pub fn reach(types: &Types, defs: &[u16], e: usize, marks: &mut [u16])
+    requires formed { Formed defs.now types.now }
+    requires low { e < length types.now }
+    requires long { 2 * length types.now ≤ length marks.old }
+    ensures { marks_of (length types.now) marks.new ≡ reached true defs.now types.now e }
 {
+    let count = types.len();
     words::clear(&mut marks[..count]);
     let mut left = push(marks, count, 0, e); // itself
     while 0 < left {
         let next = left - 1;
-        let at = words::wide(marks[count + next]);
-        let x = words::read_entry(types, at);
-        left = visit(x.kind, x.a, x.b, defs, marks, count, next);
+        let at = usize::from(marks[count + next]);
+        left = visit(types.get(at), defs, marks, count, next);
     }
 }
 
-// Is the entry an atom, String (2) or an element (3), that passes the test.
-fn atom_passes(kind: u16, a: u16, test: u16) -> bool
-    ensures { (b : ℕ) → result ≡ atom_passes test (head_of (entry_of kind a b)) }
+// Is the type an atom, String or an element, that passes the test.
+#[tactic(auto, unfolding(meaning::specs::Types::head_of))]
+fn atom_passes(x: Ty, test: u16) -> bool
+    ensures { result ≡ atom_passes test (head_of (shown x)) }
 {
-    if kind == 2 {
-        return words::passes(test, Head::Text);
+    match x {
+        Ty::Text => words::passes(test, Head::Text),
+        Ty::Element(l, _) => words::passes(test, Head::Label(l)),
+        _ => false,
     }
-    if kind == 3 {
-        return words::passes(test, Head::Label(a));
-    }
-    false
 }
 
 // Is entry i marked, and an atom that passes the test.
-fn chosen(types: &[u16], marks: &[u16], test: u16, i: usize) -> bool
-    requires fact_1 { type_width * i + type_width ≤ length types.now }
-    requires fact_2 { i < length marks.now }
-    ensures { (count : ℕ) → i < count → result ≡ picked test (table_of types.now count) (marks_of count marks.now) i }
+fn chosen(types: &Types, marks: &[u16], test: u16, i: usize) -> bool
+    requires inside { i < length types.now }
+    requires marked { i < length marks.now }
+    ensures { result ≡ picked test types.now (marks_of (length types.now) marks.now) i }
 {
     let unmarked = marks[i] == 0;
     if unmarked {
         return false;
     }
-    let x = words::read_entry(types, i);
-    atom_passes(x.kind, x.a, test)
+    atom_passes(types.get(i), test)
 }
 
-// The first entry from i on, of the first `count`, that is marked and an atom that passes the test; `count` if there is none.
-pub fn next(types: &[u16], count: usize, marks: &[u16], test: u16, i: usize) -> usize
-    requires fact_1 { type_width * count ≤ length types.now }
-    requires fact_2 { count ≤ length marks.now }
-    ensures { Next (picked test (table_of types.now count) (marks_of count marks.now)) count i result }
+// The first entry from i on that is marked and an atom that passes the test.
+pub fn next(types: &Types, marks: &[u16], test: u16, i: usize) -> Option<usize>
+    requires marked { length types.now ≤ length marks.now }
+    ensures { Next (picked test types.now (marks_of (length types.now) marks.now)) (length types.now) i result }
 {
-    let mut k = i;
-    while k < count {
-        if chosen(types, marks, test, k) {
-            return k;
-        }
-        k += 1;
-    }
-    count
+    let count = types.len();
+    (i..count).find(|k| chosen(types, marks, test, *k))
 }

@@ -1,25 +1,24 @@
 -- What a record does, by cases: one law for each way that `admit` and `advance` return.
 -- Assumes nothing.
-use mathlib.Core.Path.{◌≡◌, refl, sym, ap, ◌∙◌}
+use mathlib.Core.Path.{◌≡◌, sym, ◌∙◌}
 use mathlib.Core.Bool.{Bool, true, false, not}
 use mathlib.Core.List.{List}
 use Prim.Native.Nat.{ℕ}
 use lib.ListN.{length}
-use Rattle.meaning.specs.Base.{Out, ok, refused, ◌>>=◌, require}
+use Rattle.meaning.specs.Base.{Out, ok, ◌>>=◌, require}
 use Rattle.meaning.specs.Records as Records
-use Rattle.meaning.specs.Records.{Section, record_at, Tables, in_order, has_room, all_fit, declared_again, read_record}
-use Rattle.words.specs.Tables.{code_of, vars_of}
+use Rattle.meaning.specs.Records.{Section, Var, Node, record_at, Tables, in_order, has_room, all_fit, declared_again, read_record}
+use Rattle.std.specs.Prelude as Std
+use Rattle.refusals.specs.declared.Reason.{Reason}
 use Rattle.records.specs.declared.Item.{Item}
-use Rattle.records.specs.declared.Rec.{Rec}
-use Rattle.records.specs.Says.{section_of, sorts_of, fields_of, item_of, Filled, rec_of, Stands}
+use Rattle.records.specs.Says.{section_of, sorts_of, fields_of, item_of, Filled, Stands}
 use Rattle.records.proofs.Fit.{failed, passed}
 use Rattle.reading.specs.declared.Counts.{Counts}
-use Rattle.reading.specs.declared.Step.{Step}
 use Rattle.reading.specs.Says.{caps}
-use Rattle.reading.specs.Steps.{Counted, Shown, counted, with, Storing, Admits, Goes, Advances}
+use Rattle.reading.specs.Steps.{Counted, Shown, counted, with, Admits, Advances}
 
 -- A WHOLE RECORD
-module _ (room limit : ℕ) (i : Item) (here : Counts) (vs cs : List ℕ) where
+module _ (room limit : ℕ) (i : Item) (here : Counts) (vs : List (ℕ × Var)) (cs : List Node) where
   abbrev section : Section
   section = section_of i.form.section
 
@@ -49,7 +48,7 @@ module _ (room limit : ℕ) (i : Item) (here : Counts) (vs cs : List ℕ) where
   unfolding read_record judge
   judged file s t e f = rw (← e, ← f.a, ← f.b, ← f.c)
 
-  pub disordered : {a : Bool} → not a ≡ true → ((t : Tables) → Counted here t → a ≡ in_order t (section_of i.form.section)) → Admits room limit i here vs cs (Step.Refused 4 here.at)
+  pub disordered : {a : Bool} → not a ≡ true → ((t : Tables) → Counted here t → a ≡ in_order t (section_of i.form.section)) → Admits room limit i here vs cs (Std.Err Reason.OutOfOrder)
   unfolding judge
   disordered p h =
       record {
@@ -58,7 +57,7 @@ module _ (room limit : ℕ) (i : Item) (here : Counts) (vs cs : List ℕ) where
       }
 
   module _ {a : Bool} (pa : not a ≡ false) (ha : (t : Tables) → Counted here t → a ≡ in_order t (section_of i.form.section)) where
-    pub crowded : {b : Bool} → not b ≡ true → ((t : Tables) → Counted here t → b ≡ has_room (caps room limit) t (section_of i.form.section)) → Admits room limit i here vs cs (Step.Refused 5 here.at)
+    pub crowded : {b : Bool} → not b ≡ true → ((t : Tables) → Counted here t → b ≡ has_room (caps room limit) t (section_of i.form.section)) → Admits room limit i here vs cs (Std.Err Reason.TooMany)
     unfolding judge
     crowded p h =
         record {
@@ -67,10 +66,10 @@ module _ (room limit : ℕ) (i : Item) (here : Counts) (vs cs : List ℕ) where
         }
 
     module _ {b : Bool} (pb : not b ≡ false) (hb : (t : Tables) → Counted here t → b ≡ has_room (caps room limit) t (section_of i.form.section)) where
-      fitted : {c : Bool} → c ≡ all_fit here.types (code_of cs here.nodes) (sorts_of i.form) (fields_of i) → (t : Tables) → Shown here vs cs t → c ≡ fit t
+      fitted : {c : Bool} → c ≡ all_fit here.types cs (sorts_of i.form) (fields_of i) → (t : Tables) → Shown here vs cs t → c ≡ fit t
       fitted h t sh = rw (← sh.counts.types, ← sh.code) h
 
-      pub unfit : {c : Bool} → not c ≡ true → c ≡ all_fit here.types (code_of cs here.nodes) (sorts_of i.form) (fields_of i) → Admits room limit i here vs cs (Step.Refused 6 here.at)
+      pub unfit : {c : Bool} → not c ≡ true → c ≡ all_fit here.types cs (sorts_of i.form) (fields_of i) → Admits room limit i here vs cs (Std.Err Reason.Unfit)
       unfolding judge
       unfit p h =
           record {
@@ -78,42 +77,35 @@ module _ (room limit : ℕ) (i : Item) (here : Counts) (vs cs : List ℕ) where
             stores = tt;
           }
 
-      module _ {c : Bool} (pc : not c ≡ false) (hc : c ≡ all_fit here.types (code_of cs here.nodes) (sorts_of i.form) (fields_of i)) where
-        ends : (d : Bool) → ((t : Tables) → vars_of vs here.vars ≡ t.vars → d ≡ twice t)
+      module _ {c : Bool} (pc : not c ≡ false) (hc : c ≡ all_fit here.types cs (sorts_of i.form) (fields_of i)) where
+        ends : (d : Bool) → ((t : Tables) → vs ≡ t.vars → d ≡ twice t)
             → (file : Records.File) (s : List ℕ) (t : Tables) → ok (item_of i) ≡ record_at file s here.at → Filled i → Shown here vs cs t → read_record file (caps room limit) s here.at t ≡ judge t true true true d
         ends d h file s t e f sh =
             judged file s t e f ∙ λ j. judge t (sym (passed pa (ha t sh.counts)) j) (sym (passed pb (hb t sh.counts)) j) (sym (passed pc (fitted hc t sh)) j) (sym (h t sh.vars) j)
 
-        pub repeated : {d : Bool} → d ≡ true → ((t : Tables) → vars_of vs here.vars ≡ t.vars → d ≡ declared_again t (section_of i.form.section) i.a) → Admits room limit i here vs cs (Step.Refused 7 here.at)
+        pub repeated : {d : Bool} → d ≡ true → ((t : Tables) → vs ≡ t.vars → d ≡ declared_again t (section_of i.form.section) i.a) → Admits room limit i here vs cs (Std.Err Reason.DeclaredTwice)
         unfolding judge
         repeated p h = record { steps = ends true (λ t v. sym p ∙ h t v); stores = tt }
 
-        pub admitted : {d : Bool} (next : Counts) → d ≡ false → ((t : Tables) → vars_of vs here.vars ≡ t.vars → d ≡ declared_again t (section_of i.form.section) i.a) → next ≡ counted here i → Admits room limit i here vs cs (Step.Store i next)
+        pub admitted : {d : Bool} (next : Counts) → d ≡ false → ((t : Tables) → vs ≡ t.vars → d ≡ declared_again t (section_of i.form.section) i.a) → next ≡ counted here i → Admits room limit i here vs cs (Std.Ok next)
         unfolding judge
-        admitted next p h n = record { steps = ends false (λ t v. sym p ∙ h t v); stores = record { item = refl; counts = n } }
+        admitted next p h n = record { steps = ends false (λ t v. sym p ∙ h t v); stores = n }
 
 -- WHAT STANDS THERE
-module _ (room limit : ℕ) (file : Records.File) (s : List ℕ) (here : Counts) (vs cs : List ℕ) where
+module _ (room limit : ℕ) (file : Records.File) (s : List ℕ) (here : Counts) (vs : List (ℕ × Var)) (cs : List Node) where
   -- 1, 2, 3
-  stopped : (n : ℕ) → refused n here.at ≡ record_at file s here.at → Advances file s room limit here vs cs (Step.Refused n here.at)
+  pub nothing_there : (e : Reason) → Stands file s here.at (Std.Err e) → Advances file s room limit here vs cs (Std.Err e)
   unfolding read_record
-  stopped n e = record { steps = λ t sh. rw (← e); goes = tt }
+  nothing_there e h = record { steps = λ t sh. rw (← h.is); goes = tt }
 
-  pub cut : {r : Rec} → Stands file s here.at r → r ≡ Rec.Cut → Advances file s room limit here vs cs (Step.Refused 1 here.at)
-  cut h e = stopped 1 (ap (rec_of here.at) (sym e) ∙ h.is)
+  module _ (i : Item) (h : Stands file s here.at (Std.Ok i)) where
+    -- 4 to 7
+    pub not_admitted : (e : Reason) → Admits room limit i here vs cs (Std.Err e) → Advances file s room limit here vs cs (Std.Err e)
+    not_admitted e a = record { steps = λ t sh. a.steps file s t h.is h.complete sh; goes = tt }
 
-  pub strange : {r : Rec} → Stands file s here.at r → r ≡ Rec.Strange → Advances file s room limit here vs cs (Step.Refused 2 here.at)
-  strange h e = stopped 2 (ap (rec_of here.at) (sym e) ∙ h.is)
-
-  pub misfit : {r : Rec} → Stands file s here.at r → r ≡ Rec.Misfit → Advances file s room limit here vs cs (Step.Refused 3 here.at)
-  misfit h e = stopped 3 (ap (rec_of here.at) (sym e) ∙ h.is)
-
-  goes_on : {i : Item} (x : Step) → Stands file s here.at (Rec.Whole i) → Storing i here x → Goes file s here x
-  goes_on (Step.Store j next) h p =
-      record { item = rw p.item h.is; filled = rw p.item h.complete; counts = rw p.item p.counts }
-  goes_on (Step.Refused n place) h p = tt
-
-  pub whole : {r : Rec} {i : Item} (x : Step) → Stands file s here.at r → r ≡ Rec.Whole i → Admits room limit i here vs cs x → Advances file s room limit here vs cs x
-  whole {r} {i} x h e a =
-      let st : Stands file s here.at (Rec.Whole i) = rw (← e) h in
-      record { steps = λ t sh. a.steps file s t st.is st.complete sh; goes = goes_on x st a.stores }
+    pub goes_on : (next : Counts) → Admits room limit i here vs cs (Std.Ok next) → Advances file s room limit here vs cs (Std.Ok (record { item = i; next = next }))
+    goes_on next a =
+        record {
+          steps = λ t sh. a.steps file s t h.is h.complete sh;
+          goes = record { item = h.is; filled = h.complete; counts = a.stores };
+        }

@@ -4,11 +4,11 @@ use mathlib.Core.Path.{◌≡◌, refl, sym, ap, ◌∙◌}
 use mathlib.Core.List.{List, [], ◌∷◌, ◌++◌, append_assoc}
 use Prim.Native.Nat.{ℕ, zero, suc, ◌-◌, ◌≤◌, ◌<◌}
 use native.Mathlib.Omega.{arith}
-use lib.ListN.{length, get_or, take, set, replicate, length-append}
-use lib.Seq.{take-suc, take-length, set-append_seam}
+use lib.ListN.{length, get_or, take, drop, set, replicate, length-append}
+use lib.Seq.{take-suc, take-length, set-append_seam, drop-drop}
 use Rattle.meaning.specs.Base.{zeros, padded, concat_map}
 use Rattle.meaning.specs.Records.{Var, tree, forest, var_of}
-use Rattle.words.specs.Tables.{var_in, vars_of}
+use Rattle.words.specs.Tables.{stored, var_in, vars_of}
 use Rattle.words.proofs.Rows.{lent_at, lent_first}
 use Rattle.reading.specs.Says.{kind_of_var, var_words}
 
@@ -18,6 +18,11 @@ var_wide x = refl
 var_made : (v : ℕ) (x : Var) → ◌≡◌ {A = ℕ × Var} (v, var_of (kind_of_var x) (get_or (var_words (v, x)) 2 0)) (v, x)
 var_made v (tree e) = refl
 var_made v (forest e) = refl
+
+-- words copied to their place
+pub pasted : (t : List ℕ) (at : ℕ) {k : ℕ} {u : List ℕ} (ws : List ℕ) → k ≡ length ws → u ≡ ws → take at t ++ (u ++ drop k (drop at t)) ≡ stored t at ws
+unfolding stored
+pasted t at {k} ws l e = rw (e, l) (ap (λ (x : List ℕ). take at t ++ (ws ++ x)) (drop-drop (length ws) at t))
 
 -- A LENT TABLE that holds variables gives them back
 module _ (n : ℕ) (vs : List (ℕ × Var)) where

@@ -2,25 +2,28 @@
 -- Assumes nothing.
 use mathlib.Core.Path.{◌≡◌, refl, sym, ap, ◌∙◌}
 use mathlib.Core.Bool.{Bool, true, false}
-use mathlib.Core.List.{List, []}
-use Prim.Native.Nat.{ℕ, zero, suc, ◌+◌, ◌-◌, ◌≤◌, ◌<◌}
+use mathlib.Core.List.{List, [], ◌++◌}
+use Prim.Native.Nat.{ℕ, zero, suc, ◌+◌, ◌*◌, ◌-◌, ◌≤◌, ◌<◌}
 use native.Mathlib.Omega.{arith}
 use borrow.Author.Tests.{le-leb, lt-ltb, le-ltb}
-use lib.ListN.{length}
-use Rattle.meaning.specs.Base.{Out, ok, ◌>>=◌}
+use lib.ListN.{length, drop}
+use Rattle.meaning.specs.Base.{Out, ok, ◌>>=◌, zeros, type_width, code_width}
 use Rattle.meaning.specs.Records as Records
 use Rattle.meaning.specs.Records.{has_section, Tables, fresh, read_record, read_from, read_records}
 use Rattle.meaning.proofs.Ends.{ends_ok}
 use Rattle.meaning.proofs.Reading.{Small, Read, record_reads, Through, reads}
-use Rattle.words.proofs.Tables.{code_lent}
+use Rattle.std.specs.Prelude as Std
+use Rattle.refusals.specs.declared.Reason.{Reason}
+use Rattle.words.specs.Tables.{vars_of, code_of}
+use Rattle.words.proofs.Tables.{code_lent, table_cleared, code_cleared}
+use Rattle.records.specs.declared.Section.{Section}
 use Rattle.records.specs.declared.File.{File}
-use Rattle.records.specs.declared.Item.{Item}
-use Rattle.records.specs.Says.{file_of, section_of, item_of}
+use Rattle.records.specs.Says.{file_of, item_of}
 use Rattle.records.proofs.Found.{Known-there, there}
 use Rattle.reading.specs.declared.Counts.{Counts}
 use Rattle.reading.specs.declared.Step.{Step}
 use Rattle.reading.specs.Says.{caps}
-use Rattle.reading.specs.Steps.{Counted, Shown, Placed, with, stepped, Next, Advances}
+use Rattle.reading.specs.Steps.{Counted, Shown, with, stepped, Next, Advances}
 use Rattle.reading.specs.Lists.{Lists, Holds, Space, Stores, Begun, Finished, Stopped}
 use Rattle.reading.proofs.Decoding.{vars_lent}
 use Rattle.reading.proofs.Storing.{worded, counted_with, counted_at}
@@ -58,7 +61,7 @@ fresh_read file room limit n h a b =
     rw (← zero) through.read
 
 abbrev pub start : Counts
-start = record { at = 0; types = 2; defs = 0; vars = 0; nodes = 0; section = 0; ended = false; result = 0 }
+start = record { at = 0; types = 2; defs = 0; vars = 0; nodes = 0; section = Section.Types; result = Std.None }
 
 -- neither a job nor an answer file has values
 no_values : (file : File) → has_section (file_of file) Records.value ≡ false
@@ -74,7 +77,7 @@ begin file s room limit k b =
       enough = omega arith;
       reads = refl;
       read = fresh_read (file_of file) room limit (no_values file) b.least b.few_types b.few_nodes;
-      counts = record { types = refl; defs = refl; vars = refl; nodes = refl; section = refl; ended = refl; result = refl };
+      counts = record { types = refl; defs = refl; vars = refl; nodes = refl; section = refl; result = refl };
       holds = b.holds;
       begun = b;
       types_same = refl;
@@ -98,31 +101,12 @@ last (suc f) file room limit s at t l =
 
 module _ {file : File} {s : List ℕ} {room limit : ℕ} {k l : Lists} {here : Counts} (g : Going file s room limit k l here) where
   -- what the counts and the lists show
-  shown : Shown here l.vars l.code g.tables
+  shown : Shown here (vars_of l.vars here.vars) (code_of l.code here.nodes) g.tables
   shown =
       record {
         counts = g.counts;
         vars = rw (g.holds.vars, g.counts.vars) (vars_lent 48 g.tables.vars);
         code = rw (g.holds.code, g.counts.nodes) (code_lent (length k.code) g.tables.code);
-      }
-
-  pub ready : Placed s here l.vars l.code
-  ready =
-      let r = g.read in
-      let b = g.begun in
-      let n = g.counts in
-      record {
-        within = g.within;
-        ready = record {
-          few = record {
-            types = omega (arith, r.types.fits, b.few_types, n.types);
-            defs = omega (arith, r.defs.few, n.defs);
-            vars = omega (arith, r.vars.few, n.vars);
-            nodes = omega (arith, r.code.few, b.few_nodes, n.nodes);
-          };
-          vars_long = omega (arith, r.vars.few, n.vars, g.vars_same, b.vars_long);
-          code_long = omega (arith, r.code.few, n.nodes, g.code_same, b.code_long);
-        };
       }
 
   -- after the loop
@@ -135,59 +119,59 @@ module _ {file : File} {s : List ℕ} {room limit : ℕ} {k l : Lists} {here : C
         holds = g.holds;
       }
 
-  module _ (more : here.at < length s) {x : Step} (a : Advances (file_of file) s room limit here l.vars l.code x) where
+  module _ (more : here.at < length s) {x : Std.Result Step Reason} (a : Advances (file_of file) s room limit here (vars_of l.vars here.vars) (code_of l.code here.nodes) x) where
     less_fuel : g.fuel ≡ suc (g.fuel - 1)
     less_fuel = omega (arith, g.enough)
 
-    onward : (y : Step) → x ≡ y → (stepped g.tables y >>= λ r. read_from (g.fuel - 1) (file_of file) (caps room limit) s r.1 r.0) ≡ all file s room limit
+    onward : (y : Std.Result Step Reason) → x ≡ y → (stepped g.tables here.at y >>= λ r. read_from (g.fuel - 1) (file_of file) (caps room limit) s r.1 r.0) ≡ all file s room limit
     onward y e =
-        ap (λ (o : Out (Tables × ℕ)). o >>= λ r. read_from (g.fuel - 1) (file_of file) (caps room limit) s r.1 r.0) (ap (stepped g.tables) (sym e) ∙ sym (a.steps g.tables shown))
+        ap (λ (o : Out (Tables × ℕ)). o >>= λ r. read_from (g.fuel - 1) (file_of file) (caps room limit) s r.1 r.0) (ap (stepped g.tables here.at) (sym e) ∙ sym (a.steps g.tables shown))
         ∙ sym (turn (g.fuel - 1) (file_of file) room limit s here.at g.tables more)
         ∙ ap (λ (f : ℕ). read_from f (file_of file) (caps room limit) s here.at g.tables) (sym less_fuel)
         ∙ g.reads
 
-    pub refuses : (n place : ℕ) → x ≡ Step.Refused n place → Stopped (length k.types) (length k.code) l (all file s room limit) n place here.types here.nodes
-    refuses n place e =
+    -- the entries and the nodes that were stored are cleared again, and so are all
+    pub refuses : (e : Reason) → x ≡ Std.Err e → (m : Lists) → m.types ≡ zeros (type_width * here.types) ++ drop (type_width * here.types) l.types → m.code ≡ zeros (code_width * here.nodes) ++ drop (code_width * here.nodes) l.code
+        → Stopped (length k.types) (length k.code) m (all file s room limit) (record { reason = e; place = here.at })
+    refuses e p m t c =
         record {
-          tables = g.tables;
-          is = sym (onward (Step.Refused n place) e);
-          entries = g.counts.types;
-          nodes_are = g.counts.nodes;
-          holds = g.holds;
+          is = sym (onward (Std.Err e) p);
+          types = table_cleared (length k.types) g.tables.types g.counts.types g.holds.types g.types_same t;
+          code = code_cleared (length k.code) g.tables.code g.counts.nodes g.holds.code g.code_same c;
         }
 
-    module _ (i : Item) (next : Counts) (e : x ≡ Step.Store i next) where
-      moves : Next (file_of file) s here i next
+    module _ (y : Step) (e : x ≡ Std.Ok y) where
+      moves : Next (file_of file) s here y.item y.next
       moves = rw e at a.goes
 
-      stands : Known-there (file_of file) s here.at (item_of i)
-      stands = there (file_of file) s here.at (item_of i) moves.item
+      stands : Known-there (file_of file) s here.at (item_of y.item)
+      stands = there (file_of file) s here.at (item_of y.item) moves.item
 
-      step_reads : Read (caps room limit) i.next (with g.tables i) × (here.at + 4 ≤ i.next)
+      step_reads : Read (caps room limit) y.item.next (with g.tables y.item) × (here.at + 4 ≤ y.item.next)
       step_reads = ends_ok (rw (a.steps g.tables shown, e) at (record_reads (file_of file) s (no_values file) g.read))
 
-      next_at : next.at ≡ i.next
-      next_at = ap (λ (c : Counts). c.at) moves.counts ∙ counted_at here i (section_of i.form.section)
+      next_at : y.next.at ≡ y.item.next
+      next_at = ap (λ (c : Counts). c.at) moves.counts ∙ counted_at here y.item y.item.form.section
 
-      pub space : Space i here l
+      pub space : Space y.item here l
       space =
           let b = g.begun in
           Storing.space step_reads.0 g.counts (omega (arith, b.types_long, g.types_same)) (omega (arith, b.code_long, g.code_same)) (g.defs_same ∙ b.defs_long) (g.vars_same ∙ b.vars_long)
 
-      pub less : length s - next.at < length s - here.at
+      pub less : length s - y.next.at < length s - here.at
       less = omega (arith, step_reads.1, next_at)
 
-      pub goes : (m : Lists) → Stores i here l m → length m.types ≡ length l.types → length m.code ≡ length l.code → length m.defs ≡ length l.defs → length m.vars ≡ length l.vars → Going file s room limit k m next
+      pub goes : (m : Lists) → Stores y.item here l m → length m.types ≡ length l.types → length m.code ≡ length l.code → length m.defs ≡ length l.defs → length m.vars ≡ length l.vars → Going file s room limit k m y.next
       goes m st tl cl dl vl =
           let b = g.begun in
           record {
-            tables = with g.tables i;
+            tables = with g.tables y.item;
             fuel = g.fuel - 1;
             within = omega (arith, next_at, stands.within);
             enough = omega (arith, next_at, step_reads.1, g.enough);
-            reads = rw next_at (onward (Step.Store i next) e);
+            reads = rw next_at (onward (Std.Ok y) e);
             read = rw next_at step_reads.0;
-            counts = rw moves.counts (counted_with i (no_values file) stands g.counts);
+            counts = rw moves.counts (counted_with y.item (no_values file) stands g.counts);
             holds = rw (← g.types_same, ← g.code_same) (st g.tables (worded stands moves.filled) g.counts (rw (g.types_same, g.code_same) g.holds) (g.defs_same ∙ b.defs_long) (g.vars_same ∙ b.vars_long));
             begun = b;
             types_same = tl ∙ g.types_same;

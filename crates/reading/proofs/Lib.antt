@@ -1,5 +1,4 @@
 -- Laws of reading. Read in this order.
-pub mod Sections
 pub mod Looking
 pub mod Admitting
 pub mod Decoding

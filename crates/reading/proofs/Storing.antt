@@ -1,28 +1,27 @@
 -- What a record that reading accepts tells: its words are those of the entry or the variable that it gives, the counts go on by it, and there was room.
 -- Assumes nothing.
-use mathlib.Core.Path.{◌≡◌, refl, sym, ◌∙◌}
-use mathlib.Core.Bool.{true, false}
+use mathlib.Core.Path.{◌≡◌, refl, sym, ap, subst, ◌∙◌}
+use mathlib.Core.Bool.{false}
 use mathlib.Core.List.{List, [], ◌∷◌}
-use Prim.Native.Nat.{ℕ, ◌+◌, ◌*◌, ◌≤◌, ◌<◌}
+use Prim.Native.Nat.{ℕ, ◌+◌, ◌*◌, ◌≤◌}
 use native.Mathlib.Omega.{arith}
 use lib.ListN.{length, get_or, length-append}
 use Rattle.meaning.specs.Base.{find, zeros}
 use Rattle.meaning.specs.Types.{kind_of, fields_of, entry_words, entry_of}
 use Rattle.meaning.specs.Records as Records
-use Rattle.meaning.specs.Records.{Section, Sort, has_section, order, fields_at, var_of, node, Tables, put}
+use Rattle.meaning.specs.Records.{Sort, has_section, fields_at, var_of, node, Tables, put}
 use Rattle.meaning.proofs.Lists.{never}
 use Rattle.meaning.proofs.Grammar.{Row, form_row}
 use Rattle.meaning.proofs.Reading.{Read}
+use Rattle.records.specs.declared.Section.{Section}
 use Rattle.records.specs.declared.Item.{Item}
 use Rattle.records.specs.Says as Says
 use Rattle.records.specs.Says.{section_of, sorts_of, item_of, Filled}
-use Rattle.records.proofs.Sections.{order_low}
 use Rattle.records.proofs.Found.{Known-there}
 use Rattle.reading.specs.declared.Counts.{Counts}
 use Rattle.reading.specs.Says.{caps, var_words}
 use Rattle.reading.specs.Steps.{Counted, counted_as, counted, with}
 use Rattle.reading.specs.Lists.{Lists, Space, Worded}
-use Rattle.reading.proofs.Sections.{at_types, at_definitions, at_variables, at_query}
 
 -- WORDS
 module _ (s : List ℕ) (at : ℕ) where
@@ -49,98 +48,57 @@ pub worded : {file : Records.File} {s : List ℕ} {at : ℕ} {i : Item} → Know
 worded {s = s} {at = at} {i = i} h f =
     record {
       entry = λ e.
-          let row : Row Records.types i.kind (sorts_of i.form) = rw (← at_types e) (form_row i.kind h.known) in
+          let row : Row Records.types i.kind (sorts_of i.form) = subst (λ (x : Section). Row (section_of x) i.kind (sorts_of i.form)) e (form_row i.kind h.known) in
           entry_worded s (at + 4) i.a i.b (Says.fields_of i) f.a f.b h.fields row;
-      var = λ e. var_words_lem {ss = sorts_of i.form} i.a i.b (rw (← at_variables e) (form_row i.kind h.known));
+      var = λ e. var_words_lem {ss = sorts_of i.form} i.a i.b (subst (λ (x : Section). Row (section_of x) i.kind (sorts_of i.form)) e (form_row i.kind h.known));
     }
 
 -- COUNTS
-counted_more : {here : Counts} {t : Tables} (i : Item) (x : Section) → i.form.section ≡ order x → order x < 5 → Counted here t → Counted (counted_as x here i) (put x i.kind i.a i.b i.c t)
+counted_more : {here : Counts} {t : Tables} (i : Item) (x : Section) → i.form.section ≡ x → (x ≡ Section.Values → ⊥) → Counted here t → Counted (counted_as x here i) (put (section_of x) i.kind i.a i.b i.c t)
 unfolding put
-counted_more {t = t} i Records.types e l h =
-    record {
-      types = omega (arith, h.types, length-append t.types (entry_of i.kind i.a i.b ∷ []));
-      defs = h.defs;
-      vars = h.vars;
-      nodes = h.nodes;
-      section = e;
-      ended = h.ended;
-      result = h.result;
-    }
-counted_more {t = t} i Records.definitions e l h =
-    record {
-      types = h.types;
-      defs = omega (arith, h.defs, length-append t.defs (i.a ∷ []));
-      vars = h.vars;
-      nodes = h.nodes;
-      section = e;
-      ended = h.ended;
-      result = h.result;
-    }
-counted_more {t = t} i Records.variables e l h =
-    record {
-      types = h.types;
-      defs = h.defs;
-      vars = omega (arith, h.vars, length-append t.vars ((i.a, var_of i.kind i.b) ∷ []));
-      nodes = h.nodes;
-      section = e;
-      ended = h.ended;
-      result = h.result;
-    }
-counted_more {t = t} i Records.query e l h =
-    record {
-      types = h.types;
-      defs = h.defs;
-      vars = h.vars;
-      nodes = omega (arith, h.nodes, length-append t.code (node i.kind i.a i.b i.c ∷ []));
-      section = e;
-      ended = h.ended;
-      result = h.result;
-    }
-counted_more i Records.result e l h =
-    record { types = h.types; defs = h.defs; vars = h.vars; nodes = h.nodes; section = e; ended = refl; result = refl }
-counted_more i Records.value e l h = absurd (omega arith)
+counted_more {t = t} i Section.Types e n h =
+    record { types = omega (arith, h.types, length-append t.types (entry_of i.kind i.a i.b ∷ [])); defs = h.defs; vars = h.vars; nodes = h.nodes; section = ap section_of e; result = h.result }
+counted_more {t = t} i Section.Definitions e n h =
+    record { types = h.types; defs = omega (arith, h.defs, length-append t.defs (i.a ∷ [])); vars = h.vars; nodes = h.nodes; section = ap section_of e; result = h.result }
+counted_more {t = t} i Section.Variables e n h =
+    record { types = h.types; defs = h.defs; vars = omega (arith, h.vars, length-append t.vars ((i.a, var_of i.kind i.b) ∷ [])); nodes = h.nodes; section = ap section_of e; result = h.result }
+counted_more {t = t} i Section.Query e n h =
+    record { types = h.types; defs = h.defs; vars = h.vars; nodes = omega (arith, h.nodes, length-append t.code (node i.kind i.a i.b i.c ∷ [])); section = ap section_of e; result = h.result }
+counted_more {t = t} i Section.Result e n h =
+    record { types = h.types; defs = h.defs; vars = h.vars; nodes = h.nodes; section = ap section_of e; result = refl }
+counted_more i Section.Values e n h = absurd (n refl)
 
 -- the place goes on to the record's end
 pub counted_at : (here : Counts) (i : Item) (x : Section) → (counted_as x here i).at ≡ i.next
-counted_at here i Records.types = refl
-counted_at here i Records.definitions = refl
-counted_at here i Records.variables = refl
-counted_at here i Records.query = refl
-counted_at here i Records.result = refl
-counted_at here i Records.value = refl
-
--- a file with no values has only sections below theirs
-not_value : (file : Records.File) (x : Section) → has_section file Records.value ≡ false → has_section file x ≡ true → order x < 5
-not_value file Records.types n h = omega arith
-not_value file Records.definitions n h = omega arith
-not_value file Records.variables n h = omega arith
-not_value file Records.query n h = omega arith
-not_value file Records.result n h = omega arith
-not_value file Records.value n h = never (sym n ∙ h)
+counted_at here i Section.Types = refl
+counted_at here i Section.Definitions = refl
+counted_at here i Section.Variables = refl
+counted_at here i Section.Query = refl
+counted_at here i Section.Result = refl
+counted_at here i Section.Values = refl
 
 pub counted_with : {file : Records.File} {s : List ℕ} {at : ℕ} (i : Item) {here : Counts} {t : Tables} → has_section file Records.value ≡ false → Known-there file s at (item_of i) → Counted here t → Counted (counted here i) (with t i)
 counted_with {file} i n h c =
-    let l = not_value file (section_of i.form.section) n h.own in
-    counted_more i (section_of i.form.section) (sym (order_low i.form.section l)) l c
+    let foreign : i.form.section ≡ Section.Values → ⊥ = λ e. never (sym n ∙ ap (λ (x : Section). has_section file (section_of x)) (sym e) ∙ h.own) in
+    counted_more i i.form.section refl foreign c
 
 -- ROOM: what was read with the record is within the bounds, so there was a place for it
 module _ (t : Tables) (i : Item) where
-  types_more : i.form.section ≡ 0 → length (with t i).types ≡ length t.types + 1
+  types_more : i.form.section ≡ Section.Types → length (with t i).types ≡ length t.types + 1
   unfolding put
-  types_more e = rw (at_types e) (length-append t.types (entry_of i.kind i.a i.b ∷ []))
+  types_more e = rw e (length-append t.types (entry_of i.kind i.a i.b ∷ []))
 
-  defs_more : i.form.section ≡ 1 → length (with t i).defs ≡ length t.defs + 1
+  defs_more : i.form.section ≡ Section.Definitions → length (with t i).defs ≡ length t.defs + 1
   unfolding put
-  defs_more e = rw (at_definitions e) (length-append t.defs (i.a ∷ []))
+  defs_more e = rw e (length-append t.defs (i.a ∷ []))
 
-  vars_more : i.form.section ≡ 2 → length (with t i).vars ≡ length t.vars + 1
+  vars_more : i.form.section ≡ Section.Variables → length (with t i).vars ≡ length t.vars + 1
   unfolding put
-  vars_more e = rw (at_variables e) (length-append t.vars ((i.a, var_of i.kind i.b) ∷ []))
+  vars_more e = rw e (length-append t.vars ((i.a, var_of i.kind i.b) ∷ []))
 
-  code_more : i.form.section ≡ 3 → length (with t i).code ≡ length t.code + 1
+  code_more : i.form.section ≡ Section.Query → length (with t i).code ≡ length t.code + 1
   unfolding put
-  code_more e = rw (at_query e) (length-append t.code (node i.kind i.a i.b i.c ∷ []))
+  code_more e = rw e (length-append t.code (node i.kind i.a i.b i.c ∷ []))
 
 pub space : {room limit at : ℕ} {t : Tables} {i : Item} {here : Counts} {l : Lists} → Read (caps room limit) at (with t i) → Counted here t → 3 * room ≤ length l.types → 4 * limit ≤ length l.code → length l.defs ≡ 64 → length l.vars ≡ 48 → Space i here l
 space {t = t} {i = i} r c wide deep dl vl =

@@ -1,27 +1,29 @@
 -- A file read whole: where the loop starts, and what is left after acceptance and after a refusal.
 -- Assumes nothing.
 use mathlib.Core.Path.{◌≡◌, refl, sym, ap, ◌∙◌}
-use mathlib.Core.List.{List, [], ◌∷◌, ◌++◌}
+use mathlib.Core.List.{List, [], ◌∷◌}
 use Prim.Native.Nat.{ℕ, ◌*◌, ◌-◌, ◌≤◌, ◌<◌}
 use native.Mathlib.Omega.{arith}
 use borrow.Author.Tests.{le-leb}
-use lib.ListN.{length, drop}
-use Rattle.meaning.specs.Base.{Out, ok, refused, concat_map, zeros, padded, type_width, code_width, type_capacity, code_capacity, caps_of}
+use lib.ListN.{length}
+use Rattle.meaning.specs.Base.{Out, ok, refused, concat_map, zeros, padded, type_width, type_capacity, code_capacity, caps_of}
 use Rattle.meaning.specs.Types.{kind_of, fields_of, table_words, base}
 use Rattle.meaning.specs.Types as Types
 use Rattle.meaning.specs.Records as Records
 use Rattle.meaning.specs.Records.{node_words, Tables, fresh, read_from, read_records}
 use Rattle.meaning.proofs.Reading.{reads_nothing}
+use Rattle.std.specs.Prelude as Std
+use Rattle.refusals.specs.declared.Reason.{Reason}
+use Rattle.refusals.specs.declared.Refusal.{Refusal}
+use Rattle.refusals.specs.Says.{number_of}
 use Rattle.words.specs.Tables.{stored}
 use Rattle.words.proofs.Rows.{zeros_length}
-use Rattle.words.proofs.Tables.{table_more, table_inside, table_cleared, code_inside, code_cleared}
+use Rattle.words.proofs.Tables.{table_more}
 use Rattle.reading.specs.declared.Counts.{Counts}
-use Rattle.reading.specs.declared.Reached.{Reached}
 use Rattle.reading.specs.declared.Read.{Read}
-use Rattle.reading.specs.declared.Reading.TheVariants as Reading
-use Rattle.reading.specs.Says.{caps, read_of, Left}
+use Rattle.reading.specs.Says.{caps, seen, read_of, Left}
 use Rattle.reading.specs.Steps.{Counted}
-use Rattle.reading.specs.Lists.{Lists, lists, Holds, Blank, Begun, Finished, Stopped, Ends}
+use Rattle.reading.specs.Lists.{Lists, lists, Holds, Blank, Begun, Ends}
 
 -- A CLEARED TABLE, and one with entries 0 and 1
 nothing_held : (n : ℕ) → zeros n ≡ padded n []
@@ -66,50 +68,35 @@ read_is file tw cw room limit s p q two = rw (← p, ← q, le-leb 2 room (omega
 
 -- the answer, from what the counts and the lists hold
 answer_is : {tw cw : ℕ} (l : Lists) (c : Counts) {t : Tables} → Counted c t → Holds tw cw l t
-    → ◌≡◌ {A = Read} (record { answer = Reading.Done c.types c.nodes c.ended c.result; given = record { defs = l.defs; vars = l.vars; used = c.defs; declared = c.vars } }) (read_of (ok t))
-unfolding read_of
-answer_is l c n h j = record { answer = Reading.Done (n.types j) (n.nodes j) (n.ended j) (n.result j); given = record { defs = h.defs j; vars = h.vars j; used = n.defs j; declared = n.vars j } }
+    → ◌≡◌ {A = Read} (record { types = c.types; nodes = c.nodes; result = c.result; given = record { defs = l.defs; vars = l.vars; used = c.defs; declared = c.vars } }) (seen t)
+answer_is l c n h j = record { types = n.types j; nodes = n.nodes j; result = n.result j; given = record { defs = h.defs j; vars = h.vars j; used = n.defs j; declared = n.vars j } }
 
--- before a refusal no more was stored than there are words
-module _ (tw cw : ℕ) (l : Lists) (o : Out Tables) {x : Reached} (e : Ends tw cw l o x) {n place count nodes : ℕ} (y : x ≡ Reached.Refused n place count nodes) where
-  stopped : Stopped tw cw l o n place count nodes
-  stopped = rw y at e
-
-  pub types_inside : type_width * count ≤ length l.types
-  types_inside = table_inside tw stopped.tables.types stopped.entries stopped.holds.types
-
-  pub nodes_inside : code_width * nodes ≤ length l.code
-  nodes_inside = code_inside cw stopped.tables.code stopped.nodes_are stopped.holds.code
-
-module _ {tw cw : ℕ} {r : Read} {u w : List ℕ} where
-  refused_left : (n place : ℕ) (o : Out Tables) → o ≡ refused n place → r ≡ read_of (refused n place) → u ≡ zeros tw → w ≡ zeros cw → Left tw cw r u w o
-  refused_left n place o e p q k = record { answer = rw e p; types = rw e q; code = rw e k }
+module _ {tw cw : ℕ} {u w : List ℕ} where
+  refused_left : (r : Refusal) (o : Out Tables) → o ≡ refused (number_of r.reason) r.place → u ≡ zeros tw → w ≡ zeros cw → Left tw cw (Std.Err r) u w o
+  unfolding read_of
+  refused_left r o e q k = record { answer = rw e; types = rw e q; code = rw e k }
 
   -- under 2 entries of room
-  pub left_small : (file : Records.File) (s : List ℕ) → type_capacity tw < 2 → r ≡ read_of (refused 5 0) → u ≡ zeros tw → w ≡ zeros cw → Left tw cw r u w (read_records file (caps_of tw cw) s)
-  left_small file s h = refused_left 5 0 (read_records file (caps_of tw cw) s) (reads_nothing (caps_of tw cw) file s h)
+  pub left_small : (file : Records.File) (s : List ℕ) → type_capacity tw < 2 → u ≡ zeros tw → w ≡ zeros cw → Left tw cw (Std.Err (record { reason = Reason.TooMany; place = 0 })) u w (read_records file (caps_of tw cw) s)
+  left_small file s h = refused_left (record { reason = Reason.TooMany; place = 0 }) (read_records file (caps_of tw cw) s) (reads_nothing (caps_of tw cw) file s h)
 
   module _ (file : Records.File) (s : List ℕ) {room limit : ℕ} (p : room ≡ type_capacity tw) (q : limit ≡ code_capacity cw) (two : 2 ≤ type_capacity tw)
-      {tl cl : ℕ} (tlong : tl ≡ tw) (clong : cl ≡ cw) (l : Lists) {x : Reached} (e : Ends tl cl l (read_from (length s) file (caps room limit) s 0 fresh) x) where
-    -- the entries and the nodes that were stored are cleared again, and so is all
-    pub left_refused : {n place count nodes : ℕ} → x ≡ Reached.Refused n place count nodes → r ≡ read_of (refused n place) → length l.types ≡ tl → length l.code ≡ cl → u ≡ zeros (type_width * count) ++ drop (type_width * count) l.types → w ≡ zeros (code_width * nodes) ++ drop (code_width * nodes) l.code → Left tw cw r u w (read_records file (caps_of tw cw) s)
-    left_refused {n} {place} {count} {nodes} y a tk ck b d =
-        let f : Stopped tl cl l (read_from (length s) file (caps room limit) s 0 fresh) n place count nodes = rw y at e in
-        refused_left n place (read_records file (caps_of tw cw) s) (read_is file tw cw room limit s p q two ∙ f.is) a
-        (table_cleared tl f.tables.types f.entries f.holds.types tk b ∙ ap zeros tlong)
-        (code_cleared cl f.tables.code f.nodes_are f.holds.code ck d ∙ ap zeros clong)
+      {tl cl : ℕ} (tlong : tl ≡ tw) (clong : cl ≡ cw) (l : Lists) (ut : u ≡ l.types) (wc : w ≡ l.code) where
+    pub left_refused : (r : Refusal) → Ends tl cl l (read_from (length s) file (caps room limit) s 0 fresh) (Std.Err r) → Left tw cw (Std.Err r) u w (read_records file (caps_of tw cw) s)
+    left_refused r f = refused_left r (read_records file (caps_of tw cw) s) (read_is file tw cw room limit s p q two ∙ f.is) (ut ∙ f.types ∙ ap zeros tlong) (wc ∙ f.code ∙ ap zeros clong)
 
-    pub left_done : (c : Counts) → x ≡ Reached.Done c → r ≡ record { answer = Reading.Done c.types c.nodes c.ended c.result; given = record { defs = l.defs; vars = l.vars; used = c.defs; declared = c.vars } } → u ≡ l.types → w ≡ l.code → Left tw cw r u w (read_records file (caps_of tw cw) s)
-    left_done c y a b d =
-        let f : Finished tl cl l (read_from (length s) file (caps room limit) s 0 fresh) c = rw y at e in
+    pub left_done : (c : Counts) → Ends tl cl l (read_from (length s) file (caps room limit) s 0 fresh) (Std.Ok c)
+        → Left tw cw (Std.Ok (record { types = c.types; nodes = c.nodes; result = c.result; given = record { defs = l.defs; vars = l.vars; used = c.defs; declared = c.vars } })) u w (read_records file (caps_of tw cw) s)
+    unfolding read_of
+    left_done c f =
         let is : read_records file (caps_of tw cw) s ≡ ok f.tables = read_is file tw cw room limit s p q two ∙ f.is in
         let h = f.holds in
         rw is (record {
-          answer = a ∙ answer_is l c f.counts h;
-          types = b ∙ h.types ∙ ap (λ (k : ℕ). padded k (table_words f.tables.types)) tlong;
-          code = d ∙ h.code ∙ ap (λ (k : ℕ). padded k (concat_map node_words f.tables.code)) clong;
+          answer = ap (λ (x : Read). ok x) (answer_is l c f.counts h);
+          types = ut ∙ h.types ∙ ap (λ (k : ℕ). padded k (table_words f.tables.types)) tlong;
+          code = wc ∙ h.code ∙ ap (λ (k : ℕ). padded k (concat_map node_words f.tables.code)) clong;
         })
 
 -- the same for tables of the same lengths
-pub left_same : {a b tw cw : ℕ} {r : Read} {u w : List ℕ} (file : Records.File) (s : List ℕ) → a ≡ tw → b ≡ cw → Left a b r u w (read_records file (caps_of a b) s) → Left tw cw r u w (read_records file (caps_of tw cw) s)
+pub left_same : {a b tw cw : ℕ} {r : Std.Result Read Refusal} {u w : List ℕ} (file : Records.File) (s : List ℕ) → a ≡ tw → b ≡ cw → Left a b r u w (read_records file (caps_of a b) s) → Left tw cw r u w (read_records file (caps_of tw cw) s)
 left_same file s p q h = rw (← p, ← q) h

@@ -2,85 +2,79 @@
 #![tactic(auto)]
 
 ghost use Rattle.std.specs.Prelude.{◌≡◌, [], ◌∷◌, ◌+◌, ◌*◌, ◌≤◌, ◌<◌, length};
-ghost use Rattle.meaning.specs.Base.{find, is_some, refused, zeros, padded, caps_of};
+ghost use Rattle.meaning.specs.Base.{find, is_some, zeros, padded, caps_of};
 ghost use Rattle.meaning.specs.Types.{table_words, base};
 ghost use Rattle.meaning.specs.Records.{Tables, in_order, has_room, declared_again, fresh, read_from, read_records};
-ghost use Rattle.words.specs.Tables.{stored, vars_of};
+ghost use Rattle.words.specs.Tables.{stored};
 ghost use Rattle.records.specs.Says.{file_of, section_of};
-ghost use Rattle.reading.specs.Says.{caps, nothing_given, read_of, Left};
-ghost use Rattle.reading.specs.Steps.{Counted, Few, Ready, Placed, counted, Admits, Advances};
+ghost use Rattle.reading.specs.Says.{caps, nothing_given, Left};
+ghost use Rattle.reading.specs.Steps.{Counted, Few, Placed, counted, Admits, Advances};
 ghost use Rattle.reading.specs.Lists.{lists, Space, Stores, Blank, Begun, Ends};
 
-use records::{File, Item, Rec};
+use records::{File, Item, Section};
+use refusals::{Reason, Refusal};
+use tables::{Nodes, Vars};
 
-// How far a file is read: the place of the next record, how many entries, definitions, variables and query nodes there are, the section's number, and
-// the result entry if record 80 was read.
-#[derive(Clone, Copy)]
+// How far a file is read: the place of the next record, how many entries, definitions, variables and query nodes there are, the section, and the result
+// entry if record 80 was read.
+#[derive(Clone, Copy, Debug, PartialEq, Eq)]
 pub struct Counts {
     pub at: usize,
     pub types: usize,
     pub defs: usize,
     pub vars: usize,
     pub nodes: usize,
-    pub section: u16,
-    pub ended: bool,
-    pub result: u16,
+    pub section: Section,
+    pub result: Option<u16>,
 }
 
-// What the next record does: it is stored and the counts go on, or it is refused.
-#[derive(Drop)]
-pub enum Step {
-    Store(Item, Counts),
-    Refused { number: u16, place: usize },
+// What the next record does: it is stored, and the counts go on.
+#[derive(Clone, Copy, Debug, PartialEq, Eq)]
+pub struct Step {
+    pub item: Item,
+    pub next: Counts,
 }
 
 // Whether a section may come next.
-fn in_order(here: Counts, section: u16) -> bool
+fn in_order(here: Counts, section: Section) -> bool
     ensures { (t : Tables) → Counted here t → result ≡ in_order t (section_of section) }
 {
-    if here.ended {
+    if here.result.is_some() {
         return false; // nothing comes after record 80
     }
     here.section <= section
 }
 
 // Whether there is room for one more of a section.
-fn has_room(here: Counts, section: u16, room: usize, limit: usize) -> bool
+fn has_room(here: Counts, section: Section, room: usize, limit: usize) -> bool
     ensures { (t : Tables) → Counted here t → result ≡ has_room (caps room limit) t (section_of section) }
 {
     match section {
-        0 => here.types < room,
-        1 => here.defs < 64,
-        2 => here.vars < 16,
-        3 => here.nodes < limit,
-        _ => true,
+        Section::Types => here.types < room,
+        Section::Definitions => here.defs < 64,
+        Section::Variables => here.vars < 16,
+        Section::Query => here.nodes < limit,
+        Section::Result | Section::Values => true,
     }
 }
 
-// Whether a variable is among the first n.
-fn declared(vars: &[u16], n: usize, v: u16) -> bool
-    requires { 3 * n ≤ length vars.now }
-    ensures { result ≡ is_some (find v (vars_of vars.now n)) }
+// Whether a variable is declared.
+fn declared(vars: &Vars, v: u16) -> bool
+    ensures { result ≡ is_some (find v vars.now) }
 {
-    let mut i = 0;
-    while i < n {
-        if vars[3 * i + 1] == v {
+    for i in 0..vars.len() {
+        if vars.get(i).a == v {
             return true;
         }
-        i += 1;
     }
     false
 }
 
 // Whether a record declares a variable again.
-fn again(section: u16, vars: &[u16], n: usize, v: u16) -> bool
-    requires { 3 * n ≤ length vars.now }
-    ensures { (t : Tables) → vars_of vars.now n ≡ t.vars → result ≡ declared_again t (section_of section) v }
+fn again(section: Section, vars: &Vars, v: u16) -> bool
+    ensures { (t : Tables) → vars.now ≡ t.vars → result ≡ declared_again t (section_of section) v }
 {
-    if section == 2 {
-        return declared(vars, n, v);
-    }
-    false
+    section == Section::Variables && declared(vars, v)
 }
 
 // The counts with a record more.
@@ -88,69 +82,65 @@ fn count(here: Counts, i: Item) -> Counts
     requires { Few here }
     ensures { result ≡ counted here i }
 {
-    let form = i.form;
-    let section = form.section;
+    let section = i.form.section;
     let mut next = here;
     next.at = i.next;
     next.section = section;
     match section {
-        0 => next.types += 1,
-        1 => next.defs += 1,
-        2 => next.vars += 1,
-        3 => next.nodes += 1,
-        4 => {
-            next.ended = true;
-            next.result = i.a;
-        }
-        _ => {}
+        Section::Types => next.types += 1,
+        Section::Definitions => next.defs += 1,
+        Section::Variables => next.vars += 1,
+        Section::Query => next.nodes += 1,
+        Section::Result => next.result = Some(i.a),
+        Section::Values => {}
     }
     next
 }
 
-// What a whole record does, in the order of the refusals: 4, 5, 6, 7.
-fn admit(i: Item, here: Counts, room: usize, limit: usize, vars: &[u16], code: &[u16]) -> Step
-    requires { Ready here vars.now code.now }
+// The counts with a whole record, in the order of the refusals: 4, 5, 6, 7.
+fn admit(
+    i: Item,
+    here: Counts,
+    room: usize,
+    limit: usize,
+    vars: &Vars,
+    code: &Nodes,
+) -> Result<Counts, Reason>
+    requires { Few here }
     ensures { Admits room limit i here vars.now code.now result }
 {
-    let place = here.at;
-    let form = i.form;
-    let section = form.section;
+    let section = i.form.section;
     if !in_order(here, section) {
-        return Step::Refused { number: 4, place };
+        return Err(Reason::OutOfOrder);
     }
     if !has_room(here, section, room, limit) {
-        return Step::Refused { number: 5, place };
+        return Err(Reason::TooMany);
     }
-    if !records::item_fits(i, here.types, code, here.nodes) {
-        return Step::Refused { number: 6, place };
+    if !records::item_fits(i, here.types, code) {
+        return Err(Reason::Unfit);
     }
-    if again(section, vars, here.vars, i.a) {
-        return Step::Refused { number: 7, place };
+    if again(section, vars, i.a) {
+        return Err(Reason::DeclaredTwice);
     }
-    let next = count(here, i);
-    Step::Store(i, next)
+    Ok(count(here, i))
 }
 
-// What the next record does, from the counts and the tables so far.
+// What the next record does, from the counts and the tables so far; or why it is refused, at its place.
 pub fn advance(
     file: File,
     s: &[u8],
     here: Counts,
     room: usize,
     limit: usize,
-    vars: &[u16],
-    code: &[u16],
-) -> Step
-    requires { Placed s.now here vars.now code.now }
+    vars: &Vars,
+    code: &Nodes,
+) -> Result<Step, Reason>
+    requires { Placed s.now here }
     ensures { Advances (file_of file) s.now room limit here vars.now code.now result }
 {
-    let place = here.at;
-    match records::record_at(file, s, place) {
-        Rec::Cut => Step::Refused { number: 1, place },
-        Rec::Strange => Step::Refused { number: 2, place },
-        Rec::Misfit => Step::Refused { number: 3, place },
-        Rec::Whole(i) => admit(i, here, room, limit, vars, code),
-    }
+    let item = records::record_at(file, s, here.at)?;
+    let next = admit(item, here, room, limit, vars, code)?;
+    Ok(Step { item, next })
 }
 
 // The words of a variable stored at its place.
@@ -159,9 +149,7 @@ fn put_var(vars: &mut [u16], n: usize, kind: u16, v: u16, e: u16)
     ensures { vars.new ≡ stored vars.old (3 * n) (kind ∷ v ∷ e ∷ []) }
 {
     let at = 3 * n;
-    vars[at] = kind;
-    vars[at + 1] = v;
-    vars[at + 2] = e;
+    vars[at..at + 3].copy_from_slice(&[kind, v, e]);
 }
 
 // A record stored behind those that are there.
@@ -176,31 +164,18 @@ fn store(
     requires { Space i here (lists types.old code.old defs.old vars.old) }
     ensures { Stores i here (lists types.old code.old defs.old vars.old) (lists types.new code.new defs.new vars.new) }
 {
-    let form = i.form;
-    let section = form.section;
+    let section = i.form.section;
     let n = here.defs;
     match section {
-        0 => words::put_entry(types, here.types, i.kind, i.a, i.b),
-        1 => defs[n] = i.a,
-        2 => put_var(vars, here.vars, i.kind, i.a, i.b),
-        3 => words::put_node(code, here.nodes, i.kind, i.a, i.b, i.c),
-        _ => {}
+        Section::Types => words::put_entry(types, here.types, i.kind, i.a, i.b),
+        Section::Definitions => defs[n] = i.a,
+        Section::Variables => put_var(vars, here.vars, i.kind, i.a, i.b),
+        Section::Query => words::put_node(code, here.nodes, i.kind, i.a, i.b, i.c),
+        Section::Result | Section::Values => {}
     }
 }
 
-// How reading ends. A refusal tells how many entries and nodes were stored before it.
-#[derive(Drop)]
-enum Reached {
-    Done(Counts),
-    Refused {
-        number: u16,
-        place: usize,
-        types: usize,
-        nodes: usize,
-    },
-}
-
-// Reads from the start to the end, with entries 0 and 1 in place and the rest of the tables clear.
+// Reads from the start to the end, with entries 0 and 1 in place and the rest of the tables clear. A refusal clears the types and the query again.
 fn read_on(
     file: File,
     s: &[u8],
@@ -210,7 +185,7 @@ fn read_on(
     code: &mut [u16],
     defs: &mut [u16],
     vars: &mut [u16],
-) -> Reached
+) -> Result<Counts, Refusal>
     requires { Begun room limit (lists types.old code.old defs.old vars.old) }
     ensures { Ends (length types.old) (length code.old) (lists types.new code.new defs.new vars.new) (read_from (length s.now) (file_of file) (caps room limit) s.now 0 fresh) result }
 {
@@ -220,27 +195,28 @@ fn read_on(
         defs: 0,
         vars: 0,
         nodes: 0,
-        section: 0,
-        ended: false,
-        result: 0,
+        section: Section::Types,
+        result: None,
     };
     while here.at < s.len() {
-        match advance(file, s, here, room, limit, vars, code) {
-            Step::Store(i, next) => {
-                store(i, here, types, code, defs, vars);
-                here = next;
+        let declared = Vars::new(vars, here.vars);
+        let nodes = Nodes::new(code, here.nodes);
+        match advance(file, s, here, room, limit, &declared, &nodes) {
+            Ok(step) => {
+                store(step.item, here, types, code, defs, vars);
+                here = step.next;
             }
-            Step::Refused { number, place } => {
-                return Reached::Refused {
-                    number,
-                    place,
-                    types: here.types,
-                    nodes: here.nodes,
-                };
+            Err(reason) => {
+                words::clear_entries(types, here.types);
+                words::clear_nodes(code, here.nodes);
+                return Err(Refusal {
+                    reason,
+                    place: here.at,
+                });
             }
         }
     }
-    Reached::Done(here)
+    Ok(here)
 }
 
 // The definitions and the declared variables (three words each: 17 or 18, number, type), with zeros after them, and how many there are.
@@ -252,49 +228,25 @@ pub struct Given {
     pub declared: usize,
 }
 
-// How many entries and nodes were read, and the result entry if record 80 was read; or the refusal.
-#[derive(Drop)]
-pub enum Reading {
-    Done {
-        types: usize,
-        nodes: usize,
-        ended: bool,
-        result: u16,
-    },
-    Refused {
-        number: u16,
-        place: usize,
-    },
-}
-
-// What reading answers, and what it gives besides the lent tables.
-#[derive(Drop)]
+// What reading gives besides the lent tables: how many entries and nodes were read, the result entry if record 80 was read, and what is given.
+#[derive(Clone, Copy)]
 pub struct Read {
-    pub answer: Reading,
+    pub types: usize,
+    pub nodes: usize,
+    pub result: Option<u16>,
     pub given: Given,
 }
 
-// What is given beside a refusal: nothing.
+// No definition and no variable.
 pub fn nothing_given() -> Given
     ensures { result ≡ nothing_given }
 {
-    let defs = [0u16; 64];
-    let vars = [0u16; 48];
     Given {
-        defs,
-        vars,
+        defs: [0u16; 64],
+        vars: [0u16; 48],
         used: 0,
         declared: 0,
     }
-}
-
-// The answer to a refusal.
-fn refusal(number: u16, place: usize) -> Read
-    ensures { result ≡ read_of (refused number place) }
-{
-    let given = nothing_given();
-    let answer = Reading::Refused { number, place };
-    Read { answer, given }
 }
 
 // Entries 0 and 1, () and String, in a table that is clear.
@@ -307,9 +259,9 @@ fn put_base(types: &mut [u16])
 }
 
 // Reads the records of a file into two tables that are clear and have room for entries 0 and 1.
-fn read_into(file: File, s: &[u8], types: &mut [u16], code: &mut [u16]) -> Read
-    requires fact_1 { Blank types.old }
-    requires fact_2 { code.old ≡ zeros (length code.old) }
+fn read_into(file: File, s: &[u8], types: &mut [u16], code: &mut [u16]) -> Result<Read, Refusal>
+    requires blank { Blank types.old }
+    requires clear { code.old ≡ zeros (length code.old) }
     ensures { Left (length types.old) (length code.old) result types.new code.new (read_records (file_of file) (caps_of (length types.old) (length code.old)) s.now) }
 {
     let room = words::type_room(types);
@@ -317,44 +269,38 @@ fn read_into(file: File, s: &[u8], types: &mut [u16], code: &mut [u16]) -> Read
     put_base(types);
     let mut defs = [0u16; 64];
     let mut vars = [0u16; 48];
-    match read_on(file, s, room, limit, types, code, &mut defs, &mut vars) {
-        Reached::Done(c) => {
-            let given = Given {
-                defs,
-                vars,
-                used: c.defs,
-                declared: c.vars,
-            };
-            let answer = Reading::Done {
-                types: c.types,
-                nodes: c.nodes,
-                ended: c.ended,
-                result: c.result,
-            };
-            Read { answer, given }
-        }
-        Reached::Refused {
-            number,
-            place,
-            types: count,
-            nodes,
-        } => {
-            words::clear_entries(types, count);
-            words::clear_nodes(code, nodes);
-            refusal(number, place)
-        }
-    }
+    let counts = read_on(file, s, room, limit, types, code, &mut defs, &mut vars)?;
+    let given = Given {
+        defs,
+        vars,
+        used: counts.defs,
+        declared: counts.vars,
+    };
+    Ok(Read {
+        types: counts.types,
+        nodes: counts.nodes,
+        result: counts.result,
+        given,
+    })
 }
 
 // Reads the records of a file into two lent tables. A refusal leaves every word of them zero.
-pub fn read_records(file: File, s: &[u8], types: &mut [u16], code: &mut [u16]) -> Read
+pub fn read_records(
+    file: File,
+    s: &[u8],
+    types: &mut [u16],
+    code: &mut [u16],
+) -> Result<Read, Refusal>
     ensures { Left (length types.old) (length code.old) result types.new code.new (read_records (file_of file) (caps_of (length types.old) (length code.old)) s.now) }
 {
     words::clear(types);
     words::clear(code);
     let too_small = words::type_room(types) < 2;
     if too_small {
-        return refusal(5, 0);
+        return Err(Refusal {
+            reason: Reason::TooMany,
+            place: 0,
+        });
     }
     read_into(file, s, types, code)
 }

@@ -6,24 +6,24 @@ use mathlib.Core.Bool.{Bool, true, false, not, ◌||◌, ◌&&◌}
 use mathlib.Core.Logic.{inl, inr}
 use mathlib.Core.List.{List, [], ◌∷◌}
 use mathlib.Core.Option.{Option, none, some}
-use Prim.Native.Nat.{ℕ, zero, suc, ◌+◌, ◌≤◌, ◌<◌}
+use Prim.Native.Nat.{ℕ, zero, suc, ◌+◌, ◌-◌, ◌≤◌, ◌<◌}
 use native.Mathlib.Omega.{arith}
 use native.Mathlib.Decide.{ℕ_discrete}
 use lib.Dec.{ltb, leb, eqb}
 use borrow.Author.Tests.{ne_eqb, le-ltb, lt-leb}
 use types.Run.{OneOf}
 use Rattle.meaning.specs.Base.{find}
-use Rattle.meaning.specs.Records.{Form, forms, values, has_section, own_form, form_in}
+use Rattle.meaning.specs.Records.{Section, Sort, Form, form, forms, values, has_section, own_form, form_in}
 use Rattle.meaning.proofs.Lists.{never, both_true}
 use Rattle.meaning.proofs.Finding.{find_row, test_rows}
-use Rattle.records.specs.declared.Known.{Known}
-use Rattle.records.specs.declared.Known.TheVariants.{Unknown}
-use Rattle.records.specs.Says.{formed, Sized, Formed, Owned}
+use Rattle.std.specs.Prelude as Std
+use Rattle.records.specs.declared.Form as Code
+use Rattle.records.specs.Says.{Has, Formed, Owned}
 
 -- SINGLE KINDS of the arms, the last arm first
 abbrev pub singles : List (List ℕ)
 singles =
-    (80 ∷ []) ∷ (66 ∷ []) ∷ (65 ∷ []) ∷ (64 ∷ []) ∷ (53 ∷ []) ∷ (52 ∷ []) ∷ (50 ∷ []) ∷ (41 ∷ []) ∷ (36 ∷ 51 ∷ []) ∷ (35 ∷ []) ∷ (34 ∷ []) ∷ (33 ∷ []) ∷ (32 ∷ []) ∷ (16 ∷ [])
+    (80 ∷ []) ∷ (53 ∷ []) ∷ (52 ∷ []) ∷ (50 ∷ []) ∷ (41 ∷ []) ∷ (36 ∷ 51 ∷ []) ∷ (35 ∷ []) ∷ (34 ∷ []) ∷ (33 ∷ []) ∷ (32 ∷ []) ∷ (16 ∷ [])
     ∷ (9 ∷ []) ∷ (3 ∷ []) ∷ []
 
 unfoldable pub one_of : List ℕ → ℕ → Bool
@@ -50,40 +50,43 @@ unfolding single
 not_single [] k h = refl
 not_single (r ∷ rs) k h = rw (none_of r k h.1) (not_single rs k h.0)
 
--- AN ARM OF SINGLE NUMBERS: at each of them the form is v
-abbrev pub AllAt : Known → List ℕ → Type 0
+-- AN ARM OF SINGLE NUMBERS: at each of them the row is this one
+abbrev pub AllAt : Option Form → List ℕ → Type 0
 AllAt v [] = Unit {0}
-AllAt v (x ∷ xs) = (formed v ≡ find x forms) × AllAt v xs
+AllAt v (x ∷ xs) = (v ≡ find x forms) × AllAt v xs
 
-pub keyed : (v : Known) (ks : List ℕ) (k : ℕ) → Sized v → AllAt v ks → OneOf ks k → Formed k v
-keyed v [] k s a h = absurd h
-keyed v (x ∷ []) k s a h = record { is = a.0 ∙ ap (λ (j : ℕ). find j forms) (sym h); sized = s }
-keyed v (x ∷ y ∷ ks) k s a (inl h) = record { is = a.0 ∙ ap (λ (j : ℕ). find j forms) (sym h); sized = s }
-keyed v (x ∷ y ∷ ks) k s a (inr h) = keyed v (y ∷ ks) k s a.1 h
+all_at : (v : Option Form) (ks : List ℕ) (k : ℕ) → AllAt v ks → OneOf ks k → v ≡ find k forms
+all_at v [] k a h = absurd h
+all_at v (x ∷ []) k a h = a.0 ∙ ap (λ (j : ℕ). find j forms) (sym h)
+all_at v (x ∷ y ∷ ks) k a (inl h) = a.0 ∙ ap (λ (j : ℕ). find j forms) (sym h)
+all_at v (x ∷ y ∷ ks) k a (inr h) = all_at v (y ∷ ks) k a.1 h
 
--- AN ARM OF A RANGE: from lo on, n numbers, at each of which the form is v unless it is a single number
-abbrev pub Here : Known → ℕ → Bool → Type 0
+pub keyed : {s : Section} {ss : List Sort} {f : Code.Form} {k : ℕ} (ks : List ℕ) → Has s ss f → AllAt (some (form s ss)) ks → OneOf ks k → Formed k (Std.Some f)
+keyed {s} {ss} {f} {k} ks x a h = record { is = ap some x.is ∙ all_at (some (form s ss)) ks k a h; sized = x.sized }
+
+-- AN ARM OF A RANGE: from lo on, n numbers, at each of which the row is this one unless it is a single number
+abbrev pub Here : Option Form → ℕ → Bool → Type 0
 Here v j true = Unit {0}
-Here v j false = formed v ≡ find j forms
+Here v j false = v ≡ find j forms
 
-abbrev pub Within : Known → ℕ → ℕ → Type 0
+abbrev pub Within : Option Form → ℕ → ℕ → Type 0
 Within v lo zero = Unit {0}
 Within v lo (suc n) = Here v lo (single singles lo) × Within v (suc lo) n
 
-here : (v : Known) (j : ℕ) (b : Bool) → b ≡ false → Here v j b → formed v ≡ find j forms
+here : (v : Option Form) (j : ℕ) (b : Bool) → b ≡ false → Here v j b → v ≡ find j forms
 here v j true e h = never (sym e)
 here v j false e h = h
 
-in_range : (v : Known) (lo n k : ℕ) → Within v lo n → single singles k ≡ false → lo ≤ k → k < lo + n → formed v ≡ find k forms
+in_range : (v : Option Form) (lo n k : ℕ) → Within v lo n → single singles k ≡ false → lo ≤ k → k < lo + n → v ≡ find k forms
 in_range v lo zero k w s l h = absurd (omega arith)
 in_range v lo (suc n) k w s l h = go (ℕ_discrete k lo) (λ l h. in_range v (suc lo) n k w.1 s l h)
   where
-    go : Dec (k ≡ lo) → (suc lo ≤ k → k < suc lo + n → formed v ≡ find k forms) → formed v ≡ find k forms
+    go : Dec (k ≡ lo) → (suc lo ≤ k → k < suc lo + n → v ≡ find k forms) → v ≡ find k forms
     go (yes p) on = here v lo (single singles lo) (ap (single singles) (sym p) ∙ s) w.0 ∙ ap (λ (j : ℕ). find j forms) (sym p)
     go (no p) on = on (omega arith) (omega arith)
 
-pub ranged : (v : Known) (lo n k : ℕ) → Sized v → Within v lo n → Rest singles k → lo ≤ k → k < lo + n → Formed k v
-ranged v lo n k s w r l h = record { is = in_range v lo n k w (not_single singles k r) l h; sized = s }
+pub ranged : {s : Section} {ss : List Sort} {f : Code.Form} {k : ℕ} (lo n : ℕ) → Has s ss f → Within (some (form s ss)) lo n → Rest singles k → lo ≤ k → k < lo + n → Formed k (Std.Some f)
+ranged {s} {ss} {f} {k} lo n x w r l h = record { is = ap some x.is ∙ in_range (some (form s ss)) lo n k w (not_single singles k r) l h; sized = x.sized }
 
 -- AN ARM OF UNKNOWN KINDS: no row lies in the range but single numbers
 abbrev pub apart : ℕ → ℕ → ℕ → Bool
@@ -103,12 +106,12 @@ in_gap lo hi k (r ∷ rs) e s l h =
     let both = both_true (apart lo hi r.0) (clear lo hi rs) e in
     rw (find, ne_eqb k r.0 (λ p. not_apart lo hi k s l h (rw p both.0))) (in_gap lo hi k rs both.1 s l h)
 
-pub unknown : (lo hi k : ℕ) → clear lo hi forms ≡ true → Rest singles k → lo ≤ k → k < hi → Formed k Unknown
-unknown lo hi k e r l h = record { is = in_gap lo hi k forms e (not_single singles k r) l h; sized = tt }
+pub unknown : {k : ℕ} (lo hi : ℕ) → clear lo hi forms ≡ true → Rest singles k → lo ≤ k → k < hi → Formed k Std.None
+unknown {k} lo hi e r l h = record { is = in_gap lo hi k forms e (not_single singles k r) l h; sized = tt }
 
 -- KINDS OF A VALUES FILE
-pub a_value : (v : Known) (x : ℕ) {k : ℕ} → Sized v → formed v ≡ form_in values x → k ≡ x → Owned values k v
-a_value v x s a h = record { is = a ∙ ap (form_in values) (sym h); sized = s }
+pub a_value : {s : Section} {ss : List Sort} {f : Code.Form} {k : ℕ} (x : ℕ) → Has s ss f → some (form s ss) ≡ form_in values x → k ≡ x → Owned values k (Std.Some f)
+a_value x o a h = record { is = ap some o.is ∙ a ∙ ap (form_in values) (sym h); sized = o.sized }
 
 is_value : ℕ → Form → Bool
 is_value k f = not (has_section values f.section) || one_of (64 ∷ 65 ∷ 66 ∷ []) k
@@ -128,6 +131,19 @@ foreign k h (some f) e =
     ap (λ (b : Bool). elim b as (λ _. Option Form) [ true ↦ some f | false ↦ none ])
     (sym (not_first (has_section values f.section) (one_of (64 ∷ 65 ∷ 66 ∷ []) k) (value_row k f e) h))
 
-pub no_value : {k : ℕ} → (k ≡ 64 → ⊥) → (k ≡ 65 → ⊥) → (k ≡ 66 → ⊥) → Owned values k Unknown
+pub no_value : {k : ℕ} → (k ≡ 64 → ⊥) → (k ≡ 65 → ⊥) → (k ≡ 66 → ⊥) → Owned values k Std.None
 unfolding one_of
 no_value {k} x y z = record { is = foreign k (rw (ne_eqb k 64 x, ne_eqb k 65 y, ne_eqb k 66 z)) (find k forms) refl; sized = tt }
+
+-- an arm of them all: what they are in a values file they are among all kinds
+values_are : (n : ℕ) → n < 3 → form_in values (64 + n) ≡ find (64 + n) forms
+unfolding forms find
+values_are zero h = refl
+values_are (suc zero) h = refl
+values_are (suc (suc zero)) h = refl
+values_are (suc (suc (suc n))) h = absurd (omega arith)
+
+pub own_values : {k : ℕ} {v : Std.Option Code.Form} → Owned values k v → 64 ≤ k → k < 67 → Formed k v
+own_values {k} o l h =
+    let e : k ≡ 64 + (k - 64) = omega arith in
+    record { is = o.is ∙ ap (form_in values) e ∙ values_are (k - 64) (omega arith) ∙ ap (λ (j : ℕ). find j forms) (sym e); sized = o.sized }

@@ -1,20 +1,15 @@
--- When a field fits its sort, and when all fields of a record fit: one law for each way that `field_fits`, `item_fits` and `value_fits` return.
+-- When all fields of a record fit: one law for each way that `item_fits` returns.
 -- Assumes nothing.
-use mathlib.Core.Path.{◌≡◌, refl, sym, ap, ◌∙◌}
+use mathlib.Core.Path.{◌≡◌, refl, sym, ◌∙◌}
 use mathlib.Core.Bool.{Bool, true, false, not, ◌&&◌}
 use mathlib.Core.List.{List, [], ◌∷◌}
-use Prim.Native.Nat.{ℕ, suc, ◌*◌, ◌-◌, ◌≤◌, ◌<◌}
+use Prim.Native.Nat.{ℕ, suc, ◌-◌, ◌≤◌, ◌<◌}
 use native.Mathlib.Omega.{arith}
-use borrow.Author.Tests.{not-true, not-false, le-leb, lt-leb, lt-ltb, le-ltb}
-use lib.Dec.{leb, ltb}
-use lib.ListN.{get_or, take}
+use borrow.Author.Tests.{not-true, not-false}
+use lib.ListN.{take}
 use lib.Seq.{take-nil}
-use Rattle.meaning.specs.Base.{code_width}
 use Rattle.meaning.specs.Records as Records
 use Rattle.meaning.specs.Records.{Node, is_condition, fits, all_fit}
-use Rattle.words.specs.Tables.{code_of}
-use Rattle.words.proofs.Tables.{code_length, code_at}
-use Rattle.records.specs.declared.Sort.{Sort}
 use Rattle.records.specs.declared.Item.{Item}
 use Rattle.records.specs.Says.{sort_of, fields_in, sorts_of, fields_of}
 
@@ -24,37 +19,6 @@ failed {r} h e = sym (not-true r h) ∙ e
 
 pub passed : {r x : Bool} → not r ≡ false → r ≡ x → true ≡ x
 passed {r} h e = sym (not-false r h) ∙ e
-
--- ONE FIELD
-pub at_sort : (n : ℕ) (code : List Node) (sort is : Sort) (w : ℕ) (b : Bool) → sort ≡ is → b ≡ fits n code (sort_of is) w → b ≡ fits n code (sort_of sort) w
-at_sort n code sort is w b e g = g ∙ ap (λ (x : Sort). fits n code (sort_of x) w) (sym e)
-
-pub label_low : (w : ℕ) → w < 1 → false ≡ (leb 1 w && leb w 65534)
-label_low w h = rw (lt-leb 1 w h)
-
-pub label_high : (w : ℕ) → 1 ≤ w → leb w 65534 ≡ (leb 1 w && leb w 65534)
-label_high w h = rw (le-leb 1 w h)
-
-pub an_entry : (n : ℕ) (code : List Node) (sort : Sort) (w m : ℕ) → m ≡ w → sort ≡ Sort.EntryNo → ltb m n ≡ fits n code (sort_of sort) w
-an_entry n code sort w m e p = rw (p, e)
-
--- the query node that a field names
-module _ (n : ℕ) (ws : List ℕ) (nodes : ℕ) (sort : Sort) (w m : ℕ) (e : m ≡ w) where
-  pub no_query : sort ≡ Sort.QueryNo → nodes ≤ m → false ≡ fits n (code_of ws nodes) (sort_of sort) w
-  no_query p h = rw (p, code_length ws nodes, le-ltb w nodes (omega arith))
-
-  pub no_condition : sort ≡ Sort.CondNo → nodes ≤ m → false ≡ fits n (code_of ws nodes) (sort_of sort) w
-  no_condition p h = rw (p, code_length ws nodes, le-ltb w nodes (omega arith))
-
-  module _ (h : m < nodes) (k : ℕ) (ek : k ≡ get_or ws (code_width * m) 0) (b : Bool) (eb : b ≡ is_condition k) where
-    kind_is : b ≡ is_condition (Records.node_at (code_of ws nodes) w).kind
-    kind_is = rw (code_at ws nodes w (omega arith), ← e, ← ek) eb
-
-    pub a_query : sort ≡ Sort.QueryNo → not b ≡ fits n (code_of ws nodes) (sort_of sort) w
-    a_query p = rw (p, code_length ws nodes, lt-ltb w nodes (omega arith)) (ap not kind_is)
-
-    pub a_condition : sort ≡ Sort.CondNo → b ≡ fits n (code_of ws nodes) (sort_of sort) w
-    a_condition p = rw (p, code_length ws nodes, lt-ltb w nodes (omega arith)) kind_is
 
 -- ALL FIELDS of a record, by its length
 module _ (n : ℕ) (code : List Node) (i : Item) where

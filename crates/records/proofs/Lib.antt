@@ -1,5 +1,4 @@
 -- Laws of one record. Read in this order.
-pub mod Sections
 pub mod Arms
 pub mod Fields
 pub mod Found

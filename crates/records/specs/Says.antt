@@ -1,16 +1,18 @@
 -- What the code's sorts, files, forms and records say in document 01's terms.
 -- Assumes nothing.
-use Rattle.std.specs.Prelude.{◌≡◌, List, [], ◌∷◌, ℕ, zero, suc, ◌+◌, ◌-◌, ◌/◌, ◌≤◌, ◌<◌, take}
+use Rattle.std.specs.Prelude.{◌≡◌, List, [], ◌∷◌, ℕ, ◌+◌, ◌-◌, ◌/◌, ◌≤◌, ◌<◌, length, take, Result, Ok, Err}
+use Rattle.std.specs.Prelude as Std
 use Rattle.std.proofs.Math.Option.{Option, none, some}
 use Rattle.meaning.specs.Base.{Out, ok, refused, find, word}
 use Rattle.meaning.specs.Records as Records
-use Rattle.meaning.specs.Records.{Section, types, definitions, variables, query, result, value, form, forms, form_in, length_of, Record, field, record_at}
+use Rattle.meaning.specs.Records.{types, definitions, variables, query, result, value, form, forms, form_in, length_of, Record, field, record_at}
+use Rattle.refusals.specs.declared.Reason.{Reason}
+use Rattle.refusals.specs.Says.{number_of}
 use Rattle.records.specs.declared.Sort.{Sort}
 use Rattle.records.specs.declared.File.{File}
+use Rattle.records.specs.declared.Section.{Section}
 use Rattle.records.specs.declared.Form.{Form}
-use Rattle.records.specs.declared.Known.{Known}
 use Rattle.records.specs.declared.Item.{Item}
-use Rattle.records.specs.declared.Rec.{Rec}
 
 abbrev pub sort_of : Sort → Records.Sort
 sort_of Sort.Label = Records.label
@@ -25,14 +27,13 @@ abbrev pub file_of : File → Records.File
 file_of File.Job = Records.job
 file_of File.Answer = Records.answer
 
--- the section with this number (`order`); any number from 5 on is that of values files
-unfoldable pub section_of : ℕ → Section
-section_of zero = types
-section_of (suc zero) = definitions
-section_of (suc (suc zero)) = variables
-section_of (suc (suc (suc zero))) = query
-section_of (suc (suc (suc (suc zero)))) = result
-section_of (suc (suc (suc (suc (suc n))))) = value
+abbrev pub section_of : Section → Records.Section
+section_of Section.Types = types
+section_of Section.Definitions = definitions
+section_of Section.Variables = variables
+section_of Section.Query = query
+section_of Section.Result = result
+section_of Section.Values = value
 
 -- "Length is 4 + 2 per field": how many fields a record of this form has
 abbrev pub fields_in : Form → ℕ
@@ -45,23 +46,28 @@ sorts_of f = take (fields_in f) (sort_of f.a ∷ sort_of f.b ∷ sort_of f.c ∷
 abbrev pub form_of : Form → Records.Form
 form_of f = form (section_of f.section) (sorts_of f)
 
+-- a form is of this section and has fields of these sorts
+pub record Has (section : Records.Section) (sorts : List Records.Sort) (f : Form) : Type 0 where
+  pub is : form_of f ≡ form section sorts
+  pub sized : f.length ≡ length_of (form_of f)
+
 -- the form of a kind, none if the kind is unknown
-abbrev pub formed : Known → Option Records.Form
-formed Known.Unknown = none
-formed (Known.As f) = some (form_of f)
+abbrev pub formed : Std.Option Form → Option Records.Form
+formed Std.None = none
+formed (Std.Some f) = some (form_of f)
 
 -- the length of a form is that of its records
-abbrev pub Sized : Known → Type 0
-Sized Known.Unknown = Unit {0}
-Sized (Known.As f) = f.length ≡ length_of (form_of f)
+abbrev pub Sized : Std.Option Form → Type 0
+Sized Std.None = Unit {0}
+Sized (Std.Some f) = f.length ≡ length_of (form_of f)
 
 -- what is known of a kind is what the grammar says
-pub record Formed (kind : ℕ) (k : Known) : Type 0 where
+pub record Formed (kind : ℕ) (k : Std.Option Form) : Type 0 where
   pub is : formed k ≡ find kind forms
   pub sized : Sized k
 
 -- what is known of a kind is its form in a file
-pub record Owned (file : Records.File) (kind : ℕ) (k : Known) : Type 0 where
+pub record Owned (file : Records.File) (kind : ℕ) (k : Std.Option Form) : Type 0 where
   pub is : formed k ≡ form_in file kind
   pub sized : Sized k
 
@@ -83,19 +89,24 @@ pub record FieldAt (s : List ℕ) (at end w : ℕ) : Type 0 where
   pub inside : at + 2 ≤ end → w ≡ word s at
   pub outside : end < at + 2 → w ≡ 0
 
--- WHAT STANDS AT A PLACE: a record, or refusal 1, 2 or 3
-abbrev pub rec_of : ℕ → Rec → Out Record
-rec_of at Rec.Cut = refused 1 at
-rec_of at Rec.Strange = refused 2 at
-rec_of at Rec.Misfit = refused 3 at
-rec_of at (Rec.Whole i) = ok (item_of i)
+-- the kind at a place, or refusal 1 where fewer than four bytes are left
+abbrev pub KindAt : List ℕ → ℕ → Result ℕ Reason → Type 0
+KindAt s at (Ok k) = (at + 4 ≤ length s) × (k ≡ word s (at + 2))
+KindAt s at (Err r) = (length s < at + 4) × (r ≡ Reason.Cut)
 
-abbrev pub Complete : Rec → Type 0
-Complete Rec.Cut = Unit {0}
-Complete Rec.Strange = Unit {0}
-Complete Rec.Misfit = Unit {0}
-Complete (Rec.Whole i) = Filled i
+-- WHAT STANDS AT A PLACE: a record, or a refusal there
+abbrev pub rec_of : ℕ → Result Item Reason → Out Record
+rec_of at (Ok i) = ok (item_of i)
+rec_of at (Err r) = refused (number_of r) at
 
-pub record Stands (file : Records.File) (s : List ℕ) (at : ℕ) (r : Rec) : Type 0 where
+abbrev pub Complete : Result Item Reason → Type 0
+Complete (Ok i) = Filled i
+Complete (Err r) = Unit {0}
+
+pub record Stands (file : Records.File) (s : List ℕ) (at : ℕ) (r : Result Item Reason) : Type 0 where
   pub is : rec_of at r ≡ record_at file s at
   pub complete : Complete r
+
+-- it stands there in every file where this is the form of the kind that is there
+pub record Makes (s : List ℕ) (at kind : ℕ) (f : Form) (r : Result Item Reason) : Type 0 where
+  pub stands : (file : Records.File) → kind ≡ word s (at + 2) → Owned file kind (Std.Some f) → Stands file s at r

@@ -1,9 +1,14 @@
--- A number's decimal is that number: 20 digits hold every number of 64 bits.
+-- A number's decimal is that number: 20 digits hold every number of 64 bits. And it is what the library prints.
 -- Assumes nothing.
 use Rattle.std.proofs.Common.{◌≡◌, ℕ, zero, suc, ◌+◌, ◌-◌, ◌*◌, ◌/◌, ◌%◌, ◌^◌, ◌<◌, inl, inr, List, [], ◌∷◌, ◌++◌, refl, ap, subst, ◌∙◌, arith}
 use native.Mathlib.Nat.{pow-zero, pow-suc}
 use Rattle.std.proofs.lemmas.Bool.{cases_lt}
-use Rattle.report.specs.Text.{digit_ascii, spelled, decimal}
+use Rattle.std.proofs.Common.{sym, append_assoc}
+use Rattle.std.specs.Fmt as Fmt
+use Rattle.std.proofs.lemmas.Fmt.{AppendsLastDigit, decimal_from_appends, length-decimal-le}
+use Rattle.refusals.specs.declared.Reason.{Reason}
+use Rattle.refusals.specs.Says.{number_of}
+use Rattle.report.specs.Text.{digit_ascii, spelled, decimal, entry_line, result, result_line, stretch_line, refused, refused_line}
 use Rattle.report.proofs.Lines.{spelled_one, spelled_more}
 
 -- the number that digits are, behind one that was read before them
@@ -34,3 +39,56 @@ spelled_reads (suc most) n l =
 
 pub decimal_reads : (n : ℕ) → n < 2 ^ 64 → number_from 0 (decimal n) ≡ n
 decimal_reads n l = spelled_reads 20 n (omega (arith, l))
+
+appends : AppendsLastDigit spelled
+appends = record { one = spelled_one; more = spelled_more }
+
+pub decimal_printed : (n : ℕ) → n < 2 ^ 64 → Fmt.decimal n ≡ decimal n
+decimal_printed n l = sym (decimal_from_appends spelled appends 20 n l (length-decimal-le 20 n (omega arith) (omega (arith, l)) l))
+
+-- THE LINES as the library prints them
+pub entry_printed : (e kind a b : ℕ) → e < 2 ^ 64 → kind < 2 ^ 16 → a < 2 ^ 16 → b < 2 ^ 16
+    → Fmt.decimal e ++ (32 ∷ (Fmt.decimal kind ++ (32 ∷ (Fmt.decimal a ++ (32 ∷ (Fmt.decimal b ++ (10 ∷ []))))))) ≡ entry_line e kind a b
+unfolding entry_line
+entry_printed e kind a b h i j k =
+    rw (decimal_printed e h, decimal_printed kind (omega (arith, i)), decimal_printed a (omega (arith, j)), decimal_printed b (omega (arith, k))) (simp append_assoc)
+
+pub result_printed : (n : ℕ) → n < 2 ^ 64 → result ++ (Fmt.decimal n ++ (10 ∷ [])) ≡ result_line n
+unfolding result_line
+result_printed n h = rw (decimal_printed n h) refl
+
+pub stretch_printed : (first n : ℕ) → first < 2 ^ 64 → n < 2 ^ 64 → result ++ ((Fmt.decimal first ++ (32 ∷ Fmt.decimal n)) ++ (10 ∷ [])) ≡ stretch_line first n
+unfolding stretch_line
+stretch_printed first n h k = rw (decimal_printed first h, decimal_printed n k) (simp append_assoc)
+
+pub refused_printed : (number place : ℕ) → number < 2 ^ 64 → place < 2 ^ 64
+    → refused ++ (((Fmt.decimal number ++ (32 ∷ 97 ∷ 116 ∷ 32 ∷ [])) ++ Fmt.decimal place) ++ (10 ∷ [])) ≡ refused_line number place
+unfolding refused_line
+refused_printed number place h k = rw (decimal_printed number h, decimal_printed place k) (simp append_assoc)
+
+-- a reason's number is small
+pub number_small : (r : Reason) → number_of r < 2 ^ 64
+number_small Reason.Cut = omega arith
+number_small Reason.UnknownKind = omega arith
+number_small Reason.WrongLength = omega arith
+number_small Reason.OutOfOrder = omega arith
+number_small Reason.TooMany = omega arith
+number_small Reason.Unfit = omega arith
+number_small Reason.DeclaredTwice = omega arith
+number_small Reason.NoQuery = omega arith
+number_small Reason.NoDefinition = omega arith
+number_small Reason.Circle = omega arith
+number_small Reason.NotTrees = omega arith
+number_small Reason.NotUsedOnce = omega arith
+number_small Reason.NotInScope = omega arith
+number_small Reason.InScope = omega arith
+number_small Reason.OfForest = omega arith
+number_small Reason.TypesFull = omega arith
+number_small Reason.AnswerShort = omega arith
+number_small Reason.WrongValues = omega arith
+number_small Reason.NotOneTree = omega arith
+number_small Reason.ValuesFull = omega arith
+number_small Reason.WorkFull = omega arith
+number_small Reason.NoSuchText = omega arith
+number_small Reason.TooDeep = omega arith
+number_small Reason.RoomShort = omega arith

@@ -1,34 +1,24 @@
--- Laws of pages: the length of a front; what is written out, and behind it what stands on the page.
+-- What is written out, and what still stands on the page: nothing yet, one line more, and the whole.
 -- Assumes nothing.
-use Rattle.std.proofs.Common.{◌≡◌, ℕ, zero, suc, ◌+◌, ◌-◌, ◌*◌, ◌/◌, ◌≤◌, min, Option, List, [], ◌++◌, length, take, get_or, refl, sym, ap, subst, ◌∙◌, append_assoc, arith}
-use lib.Seq.{length-take-le}
+use Rattle.std.proofs.Common.{◌≡◌, ℕ, suc, ◌+◌, ◌-◌, ◌*◌, ◌/◌, min, ◌≤◌, List, [], ◌++◌, Option, length, get_or, append_assoc, refl, sym, ap, subst, ◌∙◌, arith}
 use Rattle.std.specs.Io.KnownBytes.{Appends}
 use Rattle.std.proofs.KnownBytes.{Appends-nil, Appends-trans}
 use Rattle.meaning.specs.Base.{type_width}
 use Rattle.report.specs.Text.{entry_line, entry_lines, stretch_lines}
-use Rattle.report.specs.Pages.{IsPrefixLen, Printed}
+use Rattle.report.specs.Pages.{Printed}
 
-pub length_take_of_le : (n : ℕ) (xs : List ℕ) → n ≤ length xs → n ≡ length (take n xs)
-length_take_of_le n xs h = sym (length-take-le n xs h)
-
-pub prefix_len_of_le : (n : ℕ) (xs : List ℕ) → n ≤ length xs → IsPrefixLen n xs
-prefix_len_of_le n xs h = (h, length_take_of_le n xs h)
-
--- NOTHING IS PRINTED YET
-pub none_printed : (contents : Option (List ℕ)) (page table : List ℕ) (first n : ℕ) → n ≡ 0 → Printed contents contents page (entry_lines table first n) 0
+pub none_printed : (contents : Option (List ℕ)) (table : List ℕ) (first n : ℕ) → n ≡ 0 → Printed contents contents [] (entry_lines table first n)
 unfolding entry_lines
-none_printed contents page table first zero none = ([], Appends-nil contents, refl)
-none_printed contents page table first (suc n) none = absurd (omega (arith, none))
+none_printed contents table first n e = rw e ([], Appends-nil contents, refl)
 
 -- ONE LINE MORE, on a page that may have been written out before
-pub line_printed : (a b c : Option (List ℕ)) (page page₁ text line : List ℕ) (at next at₁ : ℕ) → Printed a b page text at → Printed b c page (take at page) next
-    → take at₁ page₁ ≡ take next page ++ line → Printed a c page₁ (text ++ line) at₁
-line_printed a b c page page₁ text line at next at₁ p q e = (
+pub line_printed : (a b c : Option (List ℕ)) (page next after text line : List ℕ) → Printed a b page text → Printed b c next page → after ≡ next ++ line → Printed a c after (text ++ line)
+line_printed a b c page next after text line p q e = (
   p.0 ++ q.0,
   Appends-trans a b c p.0 q.0 p.1 q.1,
   ap (λ (s : List ℕ). (p.0 ++ q.0) ++ s) e
-      ∙ sym (append_assoc (p.0 ++ q.0) (take next page) line)
-      ∙ ap (λ (s : List ℕ). s ++ line) (append_assoc p.0 q.0 (take next page) ∙ ap (λ (s : List ℕ). p.0 ++ s) q.2 ∙ p.2),
+      ∙ sym (append_assoc (p.0 ++ q.0) next line)
+      ∙ ap (λ (s : List ℕ). s ++ line) (append_assoc p.0 q.0 next ∙ ap (λ (s : List ℕ). p.0 ++ s) q.2 ∙ p.2),
 )
 
 -- of so many entries and one more, the last line is that one's
@@ -41,9 +31,9 @@ lines_more table first e l =
     ap (λ (i : ℕ). entry_lines table first (e - first) ++ entry_line i (get_or table (type_width * i) 0) (get_or table (type_width * i + 1) 0) (get_or table (type_width * i + 2) 0)) (sym n)
     ∙ ap (entry_lines table first) more
 
--- WRITTEN OUT to where it ends
-pub written_out : (a b c : Option (List ℕ)) (page text : List ℕ) (at : ℕ) → Printed a b page text at → Appends b c (take at page) → Appends a c text
-written_out a b c page text at p q = subst (Appends a c) p.2 (Appends-trans a b c p.0 (take at page) p.1 q)
+-- WRITTEN OUT
+pub written_out : (a b c : Option (List ℕ)) (page text : List ℕ) → Printed a b page text → Appends b c page → Appends a c text
+written_out a b c page text p q = subst (Appends a c) p.2 (Appends-trans a b c p.0 page p.1 q)
 
 -- as far as the table has them
 pub stretched : (table : List ℕ) (first count from n : ℕ) → from ≡ min first (length table / 3) → n ≡ min count (length table / 3 - from)

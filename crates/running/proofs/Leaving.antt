@@ -1,6 +1,7 @@
 -- What an evaluation leaves, by its answer; and what each kind of query means when its parts are known.
 -- Assumes nothing.
-use mathlib.Core.Path.{◌≡◌, refl, sym, ap, subst}
+use Rattle.std.specs.Prelude as Std
+use mathlib.Core.Path.{◌≡◌, refl, sym, ap, subst, ◌∙◌}
 use mathlib.Core.Bool.{true, false}
 use mathlib.Core.List.{List, ◌∷◌, ◌++◌}
 use Prim.Native.Nat.{ℕ, ◌+◌, ◌*◌, ◌-◌, ◌/◌, ◌≤◌, ◌<◌}
@@ -12,9 +13,9 @@ use Rattle.meaning.specs.Forests.{Forest, end, leaf, tree, join, size, select, c
 use Rattle.meaning.specs.Queries as Queries
 use Rattle.meaning.specs.Queries.{Query, Cond}
 use Rattle.meaning.specs.Running.{Env, value_of, holds, written, for_each, eval}
-use Rattle.copies.specs.declared.Made.{Made}
+use Rattle.refusals.specs.declared.Refusal.{Refusal}
 use Rattle.copies.specs.Fills as Fills
-use Rattle.copies.specs.Fills.{first, Filled, Copied}
+use Rattle.copies.specs.Fills.{Made, no_room, first, Filled, Copied}
 use Rattle.copies.proofs.Lent.{back}
 use Rattle.copies.proofs.Filling.{differ, behind_filled}
 use Rattle.copies.proofs.Firsts.{others}
@@ -27,19 +28,19 @@ pub record Got (room : ℕ) (us : List ℕ) (k : ℕ) (o : Out Forest) : Type 0 
   pub is : o ≡ ok forest
   pub filled : Filled room us k forest
 
-pub left_done : {room : ℕ} {us : List ℕ} {r : Made} {o : Out Forest} {k : ℕ} → r ≡ Made.Done k → Left room us r o → Got room us k o
+pub left_done : {room : ℕ} {us : List ℕ} {r : Made} {o : Out Forest} {k : ℕ} → r ≡ Std.Ok k → Left room us r o → Got room us k o
 left_done {room} {us} {k = k} e (done {k = j} {f = f} h) = let p : j ≡ k = cc in record { forest = f; is = refl; filled = subst (λ (x : ℕ). Filled room us x f) p h }
 left_done e full = differ (cc)
 
-pub left_full : {room : ℕ} {us : List ℕ} {r : Made} {o : Out Forest} {n : ℕ} → r ≡ Made.Full n → Left room us r o → o ≡ refused 21 n
+pub left_full : {room : ℕ} {us : List ℕ} {r : Made} {o : Out Forest} {x : Refusal} → r ≡ Std.Err x → Left room us r o → (x ≡ no_room x.place) × (o ≡ refused 21 x.place)
 left_full e (done h) = differ (cc)
-left_full {n = n} e (full {n = m}) = let p : m ≡ n = cc in ap (refused 21) p
-
-pub full_is : {room : ℕ} {us : List ℕ} {r : Made} {o : Out Forest} {n : ℕ} → r ≡ Made.Full n → o ≡ refused 21 n → Left room us r o
-full_is e p = rw (e, p) full
+left_full {x = x} e (full {n = m}) = let p : no_room m ≡ x = cc in let q : m ≡ x.place = ap (λ (y : Refusal). y.place) p in (sym p ∙ ap no_room q, ap (refused 21) q)
 
 pub left_as : {room : ℕ} {us : List ℕ} {r : Made} {o p : Out Forest} → p ≡ o → Left room us r o → Left room us r p
 left_as {room} {us} {r} e h = subst (λ (x : Out Forest). Left room us r x) (sym e) h
+
+pub full_is : {room : ℕ} {us : List ℕ} {o : Out Forest} {x : Refusal} → x ≡ no_room x.place → o ≡ refused 21 x.place → Left room us (Std.Err x) o
+full_is {room} {us} {o} {x} e p = subst (λ (y : Refusal). Left room us (Std.Err y) o) (sym e) (left_as p full)
 
 -- A COPY
 pub left_written : {room : ℕ} {us : List ℕ} {n : ℕ} {r : Made} {f : Forest} (at : ℕ) → Copied room us n r f → Left room us r (written (at + room / 3) n at f)
@@ -52,8 +53,8 @@ laid_behind {room} {k} {m} {us} {vs} {f} {g} h i = subst (λ (ws : List ℕ). Fi
 
 -- the answer with k entries more
 abbrev pub raised : ℕ → Made → Made
-raised k (Made.Done m) = Made.Done (k + m)
-raised k (Made.Full n) = Made.Full n
+raised k (Std.Ok m) = Std.Ok (k + m)
+raised k (Std.Err e) = Std.Err e
 
 abbrev pub lifted : ℕ → Step → Step
 lifted k part = record { made = raised k part.made; scope = part.scope }
@@ -67,14 +68,14 @@ pub left_made : {room : ℕ} {us : List ℕ} {r t : Made} {o : Out Forest} → r
 left_made {room} {us} {o = o} e h = subst (λ (x : Made). Left room us x o) (sym e) h
 
 -- AN ELEMENT'S ENTRY before a body of k entries that stands behind it
-pub left_wrap : {ws us vs : List ℕ} {room l k : ℕ} {o : Out Forest} → length ws ≡ room → drop 3 ws ≡ vs → Wraps ws us l k → Left (room - 3) vs (Made.Done k) o → Left room us (Made.Done (1 + k)) (o >>= λ f. ok (tree l f end))
+pub left_wrap : {ws us vs : List ℕ} {room l k : ℕ} {o : Out Forest} → length ws ≡ room → drop 3 ws ≡ vs → Wraps ws us l k → Left (room - 3) vs (Std.Ok k) o → Left room us (Std.Ok (1 + k)) (o >>= λ f. ok (tree l f end))
 left_wrap {ws} {us} {room = room} {l} {k} n e w h =
     let g = left_done refl h in
     left_as (ap (λ (y : Out Forest). y >>= λ f. ok (tree l f end)) g.is)
     (done (subst (λ (j : ℕ). Filled j us (1 + k) (tree l g.forest end)) n (w.is g.forest (subst (λ (j : ℕ). Filled (j - 3) (drop 3 ws) k g.forest) (sym n) (subst (λ (x : List ℕ). Filled (room - 3) x k g.forest) (sym e) g.filled)))))
 
 -- BODIES of m entries MOVED DOWN over k that they stand behind
-pub left_move : (k : ℕ) {ws us vs : List ℕ} {room m : ℕ} {o : Out Forest} → length ws ≡ room → drop (3 * k) ws ≡ vs → Moves ws us k m → Left (room - 3 * k) vs (Made.Done m) o → Left room us (Made.Done m) o
+pub left_move : (k : ℕ) {ws us vs : List ℕ} {room m : ℕ} {o : Out Forest} → length ws ≡ room → drop (3 * k) ws ≡ vs → Moves ws us k m → Left (room - 3 * k) vs (Std.Ok m) o → Left room us (Std.Ok m) o
 left_move k {ws} {us} {room = room} {m} n e w h =
     let g = left_done refl h in
     left_as g.is

@@ -1,30 +1,29 @@
 -- Up at a node, by its kind: it is done, or its next part comes.
 -- Assumes nothing.
+use Rattle.std.specs.Prelude as Std
 use mathlib.Core.Path.{◌≡◌, refl, sym, ap, subst, ◌∙◌}
 use mathlib.Core.List.{List, [], ◌∷◌, ◌++◌, append_assoc}
-use Prim.Native.Nat.{ℕ, zero, suc, ◌+◌, ◌*◌, ◌-◌, ◌/◌, ◌≤◌, ◌<◌}
+use Prim.Native.Nat.{ℕ, ◌+◌, ◌*◌, ◌-◌, ◌/◌, ◌≤◌, ◌<◌}
 use native.Mathlib.Omega.{arith}
 use types.Run.{OneOf, miss}
 use denote.Enum.Declared.{tag_of}
 use lib.ListN.{length, take, drop, length-append, take-append-drop}
-use Rattle.meaning.specs.Records.{Node}
+use Rattle.meaning.specs.Records.{Node, node_at}
 use Rattle.meaning.specs.Queries as Queries
 use Rattle.meaning.specs.Queries.{Query, Cond, query_at, cond_at}
 use Rattle.meaning.specs.Running.{eval}
-use Rattle.words.specs.Tables.{stored, node_in, code_of}
+use Rattle.words.specs.Tables.{stored}
 use Rattle.spans.specs.declared.Span.{Span}
 use Rattle.spans.specs.declared.Spans.{Spans}
 use Rattle.spans.specs.Shows.{standing, bound}
-use Rattle.copies.specs.declared.Made.{Made}
 use Rattle.moves.specs.Moves.{Room, Wraps, Moves}
 use Rattle.queries.specs.Says.{query_of, Says}
 use Rattle.queries.specs.declared.Query as Nodes
 use Rattle.queries.specs.contracts.Query as Kinds
 use Rattle.queries.proofs.Named.{query_is}
 use Rattle.running.specs.declared.Frame.{Frame}
-use Rattle.running.specs.declared.Next.TheVariants as Next
 use Rattle.running.specs.Evaluates.{Step, Rounds, bodied}
-use Rattle.running.specs.Machine.{Turn, Spot, spot, Answers, Gave, holding, InFirst, InElement, InWhen, InPair, InLet, InFor, Within, Steps, Returns, Looping, done, risen, framed, weight, still}
+use Rattle.running.specs.Machine.{Turn, sunk, Spot, spot, Answers, Gave, holding, InFirst, InElement, InWhen, InPair, InLet, InFor, Within, Steps, Returns, Looping, done, risen, weight, still}
 use Rattle.running.proofs.Given.{begins_on, begins_bind}
 use Rattle.running.proofs.Leaving.{Got, lifted, left_as, when_is, let_is}
 use Rattle.running.proofs.Wholes.{over_length, part_got, element_leaves, element_room, pair_leaves, bound_leaves, inside_leaves}
@@ -32,12 +31,12 @@ use Rattle.running.proofs.Rounds.{rounds_start, turn_behind, turn_next}
 use Rattle.running.proofs.Inside.{half_first, half_second, Placed, within_placed, had_fits, had_front, held_long, had_among, second_begins, held_begins, few_entries}
 use Rattle.running.proofs.Parts.{answers_as, answers_at, answers_in, answers_own, less_or, half_make, pair_less, let_less, for_source, rounds_as, steps_more, turn_as, comes}
 
-module _ {code : List ℕ} {nodes : ℕ} {f : Frame} {x : Spot} {pre : List ℕ} {y : Spot} {at k : ℕ} {s : Spans} {held rest : List ℕ} (r : Returns code nodes f x pre y at k s held rest) where
+module _ {code : List Node} {f : Frame} {x : Spot} {pre : List ℕ} {y : Spot} {at k : ℕ} {s : Spans} {held rest : List ℕ} (r : Returns code f x pre y at k s held rest) where
   abbrev C : List Node
-  C = code_of code nodes
+  C = code
 
   abbrev step : Step
-  step = record { made = Made.Done k; scope = s }
+  step = record { made = Std.Ok k; scope = s }
 
   within_as : {q : Query} → query_at C x.node ≡ q → Within C q f x pre y
   within_as e = subst (λ (q : Query). Within C q f x pre y) e r.inner.within
@@ -59,8 +58,8 @@ module _ {code : List ℕ} {nodes : ℕ} {f : Frame} {x : Spot} {pre : List ℕ}
   returns_wide = ap length r.part ∙ length-append pre r.vs ∙ omega (arith, r.answers.wide, returns_placed.words)
 
   -- THE NODE IS DONE
-  pub done_up : {t : Step} {after us : List ℕ} → Answers (query_at C x.node) x t after us → {base : ℕ} → base ≡ f.base → {most : ℕ} {st st' : List ℕ} {top : ℕ} {u : Turn} → st' ≡ st → u ≡ risen t base top → Steps code nodes most x after us st st' top u
-  done_up {t} a b {top = top} est eu = done t a est (eu ∙ ap (λ (i : ℕ). risen t i top) (b ∙ r.inner.base))
+  pub done_up : {t : Step} {after us : List ℕ} → Answers (query_at C x.node) x t after us → {base : ℕ} → base ≡ f.base → {most : ℕ} {st st' : List Frame} {u : Turn} → st' ≡ st → u ≡ risen t base → Steps code most x after us st st' u
+  done_up {t} a b est eu = done t a est (eu ∙ ap (λ (i : ℕ). risen t i) (b ∙ r.inner.base))
 
   -- AN ELEMENT'S BODY is done
   module _ {n l : ℕ} {q : Query} (e : query_at C x.node ≡ Queries.element n l q) where
@@ -76,7 +75,7 @@ module _ {code : List ℕ} {nodes : ℕ} {f : Frame} {x : Spot} {pre : List ℕ}
     pub element_space : Room (length rest) 1 k
     element_space = subst (λ (ws : List ℕ). Room (length ws) 1 k) (sym part_is) (element_room r.given.begins n l q inside_element.room body.is body.wide)
 
-    pub element_up : {us : List ℕ} → Wraps rest us l k → length us ≡ length rest → Answers (query_at C x.node) x (record { made = Made.Done (1 + k); scope = s }) held us
+    pub element_up : {us : List ℕ} → Wraps rest us l k → length us ≡ length rest → Answers (query_at C x.node) x (record { made = Std.Ok (1 + k); scope = s }) held us
     element_up {us} w long =
         answers_as (sym e) (record {
           is = element_leaves r.given.begins n l q inside_element.room body.is body.wide (subst (λ (ws : List ℕ). Wraps ws us l k) part_is w);
@@ -117,28 +116,27 @@ module _ {code : List ℕ} {nodes : ℕ} {f : Frame} {x : Spot} {pre : List ℕ}
 
   -- PAIR
   module _ {n : ℕ} {p q : Query} (e : query_at C x.node ≡ Queries.pair n p q) where
-    module _ {first : ℕ} (kept : f.kept ≡ suc first) where
+    module _ {first : ℕ} (kept : f.first ≡ Std.Some first) where
       inside_pair : InPair C p q first x pre y
       inside_pair = half_second (InFirst C p x pre y) (λ i. InPair C p q i x pre y) first kept (within_as e)
 
-      pub pair_up : {c : ℕ} → c ≡ f.kept → {t : Step} → t ≡ lifted (c - 1) step → Answers (query_at C x.node) x t held rest
+      pub pair_up : {c : ℕ} → c ≡ first → {t : Step} → t ≡ lifted c step → Answers (query_at C x.node) x t held rest
       pair_up {c} ec z =
-          let less : c - 1 ≡ first = omega (arith, ec, kept) in
           let h = inside_pair in
           let a = answers_as h.part (answers_at h.is r.answers) in
           answers_in (sym (r.part ∙ ap (λ (ws : List ℕ). ws ++ r.vs) h.front)) (answers_as (sym e) (record {
-            is = pair_leaves r.given.begins n p q h.gave.is refl h.gave.long a.is (z ∙ ap (λ (i : ℕ). lifted i step) less);
+            is = pair_leaves r.given.begins n p q h.gave.is refl h.gave.long a.is (z ∙ ap (λ (i : ℕ). lifted i step) ec);
             long = a.long ∙ h.gave.long;
             wide = over_length (3 * first) h.us r.vs (omega (arith, had_fits r.given h.gave, h.gave.wide)) a.wide ∙ h.gave.wide;
           }))
 
-    module _ (first : f.kept ≡ 0) where
+    module _ (first : f.first ≡ Std.None) where
       begun_pair : InFirst C p x pre y
       begun_pair = half_first (InFirst C p x pre y) (λ i. InPair C p q i x pre y) first (within_as e)
 
-      pub pair_on : (i : ℕ) → query_at C i ≡ q → i < x.node → (g : Frame) → g.node ≡ f.node → g.base ≡ f.base → g.kept ≡ suc k
-          → {st st' : List ℕ} {top : ℕ} {t : Turn} → st' ≡ framed st top g → t ≡ record { next = Next.Down i (at + k) (suc top); scope = s } → Steps code nodes (still (query_at C x.node) f) x held rest st st' top t
-      pair_on i is low g gn gb gk {top = top} est et =
+      pub pair_on : (i : ℕ) → query_at C i ≡ q → i < x.node → (g : Frame) → g.node ≡ f.node → g.base ≡ f.base → g.first ≡ Std.Some k
+          → {st st' : List Frame} {t : Turn} → st' ≡ g ∷ st → t ≡ sunk i (at + k) s → Steps code (still (query_at C x.node) f) x held rest st st' t
+      pair_on i is low g gn gb gk est et =
           let h = begun_pair in
           let w = first_gave h in
           let inside : InPair C p q k x (take (3 * k) r.vs) (spot i (x.at + k) x.scope held (drop (3 * k) r.vs)) = record { after = held; us = r.vs; gave = w; part = is; front = refl; is = refl } in
@@ -150,47 +148,38 @@ module _ {code : List ℕ} {nodes : ℕ} {f : Frame} {x : Spot} {pre : List ℕ}
           est
           (turn_as et (ap (λ (j : ℕ). j + k) (first_at_lem h)) (first_scope h))
 
-    -- both parts are no more than the work table has
-    pub pair_few : f.kept + k ≤ 8193
-    pair_few = go f.kept refl
-      where
-        go : (m : ℕ) → f.kept ≡ m → f.kept + k ≤ 8193
-        go zero h = omega (arith, returns_low)
-        go (suc first) h = omega (arith, returns_low, r.from, returns_placed.place, ap length (inside_pair h).front ∙ had_front r.given (inside_pair h).gave)
-
   -- what is made has room behind the words before it
   pub room_behind : (first : ℕ) → length pre ≡ 3 * first → Room (length rest) first k
   room_behind first e = record { few = omega (arith, returns_wide, r.given.begins.few, r.given.begins.whole); fits = omega (arith, returns_wide, returns_fits) }
 
   -- LET
   module _ {n v : ℕ} {p q : Query} (e : query_at C x.node ≡ Queries.let_in n v p q) where
-    module _ {first : ℕ} (kept : f.kept ≡ suc first) where
+    module _ {first : ℕ} (kept : f.first ≡ Std.Some first) where
       inside_let : InLet C v p q first f x pre y
       inside_let = half_second (InFirst C p x pre y) (λ i. InLet C v p q i f x pre y) first kept (within_as e)
 
-      pub let_space : {c : ℕ} → c ≡ f.kept → Room (length rest) (c - 1) k
-      let_space {c} ec = let less : first ≡ c - 1 = omega (arith, ec, kept) in subst (λ (i : ℕ). Room (length rest) i k) less (room_behind first (ap length inside_let.front ∙ had_front r.given inside_let.gave))
+      pub let_space : {c : ℕ} → c ≡ first → Room (length rest) c k
+      let_space {c} ec = subst (λ (i : ℕ). Room (length rest) i k) (sym ec) (room_behind first (ap length inside_let.front ∙ had_front r.given inside_let.gave))
 
-      pub let_up : {i c : ℕ} → i ≡ v → c ≡ f.kept → {u : Spans} {us : List ℕ} → u ≡ bound s i f.hides → Moves rest us (c - 1) k → length us ≡ length rest → Answers (query_at C x.node) x (record { made = Made.Done k; scope = u }) held us
+      pub let_up : {i c : ℕ} → i ≡ v → c ≡ first → {u : Spans} {us : List ℕ} → u ≡ bound s i f.hides → Moves rest us c k → length us ≡ length rest → Answers (query_at C x.node) x (record { made = Std.Ok k; scope = u }) held us
       let_up {i} {c} ei ec {u} {us} unbound moves long =
-          let less : c - 1 ≡ first = omega (arith, ec, kept) in
           let h = inside_let in
           let g = h.gave in
           let a = answers_as h.part (answers_at h.is r.answers) in
-          let z = subst (λ (ws : List ℕ). Moves ws us first k) (r.part ∙ ap (λ (ws : List ℕ). ws ++ r.vs) h.front) (subst (λ (j : ℕ). Moves rest us j k) less moves) in
+          let z = subst (λ (ws : List ℕ). Moves ws us first k) (r.part ∙ ap (λ (ws : List ℕ). ws ++ r.vs) h.front) (subst (λ (j : ℕ). Moves rest us j k) ec moves) in
           answers_as (sym e) (record {
             is = bound_leaves r.given.begins p (Queries.let_in n v p q) (λ y. bodied v y q) g.is refl g.long g.wide refl (held_long r.given g) (λ top env y i c. let_is top n env x.at p q i c v) (inside_leaves (held_begins r.given g) (record { from = x.at; to = x.at + first }) f.hides q h.few refl refl h.hides (unbound ∙ ap (λ (j : ℕ). bound s j f.hides) ei) a.is) a.wide z;
             long = a.long ∙ held_long r.given g ∙ g.long;
             wide = long ∙ returns_wide;
           })
 
-    module _ (first : f.kept ≡ 0) where
+    module _ (first : f.first ≡ Std.None) where
       begun_let : InFirst C p x pre y
       begun_let = half_first (InFirst C p x pre y) (λ i. InLet C v p q i f x pre y) first (within_as e)
 
-      pub let_on : v ≤ 63 → (i : ℕ) → query_at C i ≡ q → i < x.node → (g : Frame) → g.node ≡ f.node → g.base ≡ f.base → g.kept ≡ suc k → {w b : ℕ} → w ≡ v → b ≡ f.base → g.hides ≡ standing s w
+      pub let_on : v ≤ 63 → (i : ℕ) → query_at C i ≡ q → i < x.node → (g : Frame) → g.node ≡ f.node → g.base ≡ f.base → g.first ≡ Std.Some k → {w b : ℕ} → w ≡ v → b ≡ f.base → g.hides ≡ standing s w
           → {after : List ℕ} {u : Spans} → after ≡ stored held (3 * b) (take (3 * k) rest) → u ≡ bound s w (record { from = f.base; to = b + k })
-          → {st st' : List ℕ} {top : ℕ} {t : Turn} → st' ≡ framed st top g → t ≡ record { next = Next.Down i (at + k) (suc top); scope = u } → Steps code nodes (still (query_at C x.node) f) x after rest st st' top t
+          → {st st' : List Frame} {t : Turn} → st' ≡ g ∷ st → t ≡ sunk i (at + k) u → Steps code (still (query_at C x.node) f) x after rest st st' t
       let_on few i is low g gn gb gk {w = j} {b} ej eb gh ea eu est et =
           let h = begun_let in
           let w = first_gave h in
@@ -215,7 +204,7 @@ module _ {code : List ℕ} {nodes : ℕ} {f : Frame} {x : Spot} {pre : List ℕ}
 
   -- FOR
   module _ {v i : ℕ} {p : Query} (e : query_at C x.node ≡ Queries.for x.node v p (query_at C i)) (low : i < x.node) where
-    module _ {first : ℕ} (kept : f.kept ≡ suc first) where
+    module _ {first : ℕ} (kept : f.first ≡ Std.Some first) where
       inside_for : InFor C v p (query_at C i) first f x pre y
       inside_for = half_second (InFirst C p x pre y) (λ j. InFor C v p (query_at C i) j f x pre y) first kept (within_as e)
 
@@ -237,7 +226,6 @@ module _ {code : List ℕ} {nodes : ℕ} {f : Frame} {x : Spot} {pre : List ℕ}
           let z = turn_next b among h.rounds h.more h.next (inside_leaves o (record { from = h.j; to = f.next }) f.hides (query_at C i) h.few refl refl h.hides (unbound ∙ ap (λ (j : ℕ). bound s j f.hides) ew) a.is) refl a.long in
           record {
             code = code;
-            nodes = nodes;
             outer = x;
             given = r.given;
             node = r.inner.node;
@@ -255,12 +243,12 @@ module _ {code : List ℕ} {nodes : ℕ} {f : Frame} {x : Spot} {pre : List ℕ}
             part = r.part ∙ ap (λ (ws : List ℕ). ws ++ r.vs) h.front ∙ append_assoc (take (3 * first) h.us) (take (3 * h.m) h.vs) r.vs;
           }
 
-      pub body_steps : {w : ℕ} → w ≡ v → {u : Spans} {m : ℕ} → u ≡ bound s w f.hides → m ≡ at - (f.base + first) + k → {after us st st' : List ℕ} {top : ℕ} {t : Turn}
-          → ((l : Looping v i f m u held rest) → Steps l.code l.nodes (still (query_at (code_of l.code l.nodes) l.outer.node) f) l.outer after us st st' top t) → Steps code nodes (still (query_at C x.node) f) x after us st st' top t
+      pub body_steps : {w : ℕ} → w ≡ v → {u : Spans} {m : ℕ} → u ≡ bound s w f.hides → m ≡ at - (f.base + first) + k → {after us : List ℕ} {st st' : List Frame} {t : Turn}
+          → ((l : Looping v i f m u held rest) → Steps l.code (still (query_at l.code l.outer.node) f) l.outer after us st st' t) → Steps code (still (query_at C x.node) f) x after us st st' t
       unfolding body_loops
       body_steps ew unbound em h = h (body_loops ew unbound em)
 
-    module _ (first : f.kept ≡ 0) where
+    module _ (first : f.first ≡ Std.None) where
       begun_for : InFirst C p x pre y
       begun_for = half_first (InFirst C p x pre y) (λ j. InFor C v p (query_at C i) j f x pre y) first (within_as e)
 
@@ -271,7 +259,7 @@ module _ {code : List ℕ} {nodes : ℕ} {f : Frame} {x : Spot} {pre : List ℕ}
       for_low = omega (arith, r.inner.base, few_entries r.given (first_gave begun_for))
 
       -- its source is done
-      pub source_loops : (g : Frame) → g.node ≡ f.node → g.base ≡ f.base → g.kept ≡ suc k → g.next ≡ f.base → {b : ℕ} → b ≡ f.base → {after : List ℕ} → after ≡ stored held (3 * b) (take (3 * k) rest) → Looping v i g 0 s after rest
+      pub source_loops : (g : Frame) → g.node ≡ f.node → g.base ≡ f.base → g.first ≡ Std.Some k → g.next ≡ f.base → {b : ℕ} → b ≡ f.base → {after : List ℕ} → after ≡ stored held (3 * b) (take (3 * k) rest) → Looping v i g 0 s after rest
       source_loops g gn gb gk gx eb {after} ea =
           let h = begun_for in
           let w = first_gave h in
@@ -279,7 +267,6 @@ module _ {code : List ℕ} {nodes : ℕ} {f : Frame} {x : Spot} {pre : List ℕ}
           let held_is : after ≡ holding x k held r.vs = ea ∙ ap (λ (b : ℕ). stored held (3 * b) (take (3 * k) rest)) (eb ∙ r.inner.base) ∙ ap (λ (ws : List ℕ). stored held (3 * x.at) (take (3 * k) ws)) (first_part h) in
           record {
             code = code;
-            nodes = nodes;
             outer = x;
             given = r.given;
             node = gn ∙ r.inner.node;
@@ -297,24 +284,24 @@ module _ {code : List ℕ} {nodes : ℕ} {f : Frame} {x : Spot} {pre : List ℕ}
             part = first_part h ∙ sym (take-append-drop (3 * k) r.vs);
           }
 
-      source_less : (g : Frame) → g.base ≡ f.base → g.kept ≡ suc k → g.next ≡ f.base → still (query_at C x.node) g ≤ still (query_at C x.node) f
+      source_less : (g : Frame) → g.base ≡ f.base → g.first ≡ Std.Some k → g.next ≡ f.base → still (query_at C x.node) g ≤ still (query_at C x.node) f
       source_less g gb gk gx = subst (λ (c : Query). still c g ≤ still c f) (sym e) (less_or (for_source x.node v p (query_at C i) f g k gk first (omega (arith, for_low))))
 
-      pub source_steps : (g : Frame) → g.node ≡ f.node → g.base ≡ f.base → g.kept ≡ suc k → g.next ≡ f.base → {b : ℕ} → b ≡ f.base → {after : List ℕ} → after ≡ stored held (3 * b) (take (3 * k) rest) → {now us st st' : List ℕ} {top : ℕ} {t : Turn}
-          → ((l : Looping v i g 0 s after rest) → Steps l.code l.nodes (still (query_at (code_of l.code l.nodes) l.outer.node) g) l.outer now us st st' top t) → Steps code nodes (still (query_at C x.node) f) x now us st st' top t
+      pub source_steps : (g : Frame) → g.node ≡ f.node → g.base ≡ f.base → g.first ≡ Std.Some k → g.next ≡ f.base → {b : ℕ} → b ≡ f.base → {after : List ℕ} → after ≡ stored held (3 * b) (take (3 * k) rest) → {now us : List ℕ} {st st' : List Frame} {t : Turn}
+          → ((l : Looping v i g 0 s after rest) → Steps l.code (still (query_at l.code l.outer.node) g) l.outer now us st st' t) → Steps code (still (query_at C x.node) f) x now us st st' t
       unfolding source_loops
       source_steps g gn gb gk gx eb ea h = steps_more (source_less g gb gk gx) (h (source_loops g gn gb gk gx eb ea))
 
-  pub node_inside : {n : ℕ} → n ≡ f.node → 4 * n + 4 ≤ length code
-  node_inside e = omega (arith, r.inner.node, r.given.low, r.given.coded.inside)
+  pub node_inside : {n : ℕ} → n ≡ f.node → n < length code
+  node_inside e = omega (arith, r.inner.node, r.given.low)
 
   -- WHAT THE NODE SAYS
-  module _ {n : ℕ} (en : n ≡ f.node) {c : Nodes.Query} (says : Says n (node_in code n) c) where
-    pub said : Says x.node (node_in code x.node) c
-    said = subst (λ (m : ℕ). Says m (node_in code m) c) (en ∙ r.inner.node) says
+  module _ {n : ℕ} (en : n ≡ f.node) {c : Nodes.Query} (says : Says n (node_at code n) c) where
+    pub said : Says x.node (node_at code x.node) c
+    said = subst (λ (m : ℕ). Says m (node_at code m) c) (en ∙ r.inner.node) says
 
-    pub says_query : (z : Nodes.Query) → c ≡ z → query_at C x.node ≡ query_of x.node (λ i. cond_at C i) (λ i. query_at C i) z
-    says_query z e = query_is code nodes r.given.coded r.given.low said ∙ ap (query_of x.node (λ i. cond_at C i) (λ i. query_at C i)) e
+    pub says_query : (z : Nodes.Query) → c ≡ z → query_at C x.node ≡ query_of x.node (cond_at C) (query_at C) z
+    says_query z e = query_is code r.given.lowers r.given.low said ∙ ap (query_of x.node (cond_at C) (query_at C)) e
 
     -- a when, or a node that has no parts and so is not begun
     abbrev Up : Type 0
@@ -332,5 +319,5 @@ module _ {code : List ℕ} {nodes : ℕ} {f : Frame} {x : Spot} {pre : List ℕ}
     other (Nodes.TheVariants.For v p q) e h = absurd (miss (0 ∷ 1 ∷ 4 ∷ 5 ∷ 6 ∷ 9 ∷ []) 7 tt h)
     other (Nodes.TheVariants.Let v p q) e h = absurd (miss (0 ∷ 1 ∷ 4 ∷ 5 ∷ 6 ∷ 9 ∷ []) 8 tt h)
 
-    pub other_up : OneOf (0 ∷ 1 ∷ 4 ∷ 5 ∷ 6 ∷ 9 ∷ []) (tag_of Kinds.the_type c) → {most : ℕ} {st st' : List ℕ} {top : ℕ} {u : Turn} → st' ≡ st → u ≡ risen step at top → Steps code nodes most x held rest st st' top u
-    other_up h {top = top} est eu = let z = other c refl h in done step z.0 est (eu ∙ ap (λ (i : ℕ). risen step i top) z.1)
+    pub other_up : OneOf (0 ∷ 1 ∷ 4 ∷ 5 ∷ 6 ∷ 9 ∷ []) (tag_of Kinds.the_type c) → {most : ℕ} {st st' : List Frame} {u : Turn} → st' ≡ st → u ≡ risen step at → Steps code most x held rest st st' u
+    other_up h est eu = let z = other c refl h in done step z.0 est (eu ∙ ap (λ (i : ℕ). risen step i) z.1)

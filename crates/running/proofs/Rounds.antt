@@ -1,5 +1,6 @@
 -- The rounds of a for: the bodies that stand there already, and the trees still to come.
 -- Assumes nothing.
+use Rattle.std.specs.Prelude as Std
 use mathlib.Core.Path.{◌≡◌, refl, sym, ap, subst, ◌∙◌}
 use mathlib.Core.List.{List, ◌++◌}
 use Prim.Native.Nat.{ℕ, ◌+◌, ◌*◌, ◌/◌, ◌≤◌, ◌<◌}
@@ -13,7 +14,6 @@ use Rattle.meaning.proofs.Forests.{join_end, join_assoc, words_determine}
 use Rattle.spans.specs.declared.Spans.{Spans}
 use Rattle.spans.specs.Shows.{part, Shows}
 use Rattle.spans.proofs.Parts.{part_below}
-use Rattle.copies.specs.declared.Made.{Made}
 use Rattle.copies.specs.Fills.{first, Filled}
 use Rattle.copies.proofs.Filling.{filled_none, filled_length, filled_blank}
 use Rattle.copies.proofs.Firsts.{others, some, stretch_none, tree_size, tree_inside, tree_words, others_words}
@@ -67,7 +67,7 @@ module _ {v : ℕ} {q : Query} {s : Spans} {held start : List ℕ} {at a e : ℕ
     rounds_same : {last us : List ℕ} {x : Step} → Evaluates s held last (length start) us at x (looped v r.source q) → (f : Forest) → part held a e ≡ forest_words f → Evaluates s held last (length start) us at x (looped v f q)
     rounds_same {last} {us} {x} w f p = subst (λ (y : Forest). Evaluates s held last (length start) us at x (looped v y q)) (sym (words_determine f r.source (sym p ∙ r.was))) w
 
-    pub rounds_end : e ≤ j → (f : Forest) → part held a e ≡ forest_words f → Evaluates s held after (length start) rest at (record { made = Made.Done k; scope = t }) (looped v f q)
+    pub rounds_end : e ≤ j → (f : Forest) → part held a e ≡ forest_words f → Evaluates s held after (length start) rest at (record { made = Std.Ok k; scope = t }) (looped v f q)
     unfolding for_each
     rounds_end l =
         let c = stretch_none after j e r.coming inside_held is_now l in
@@ -101,7 +101,7 @@ module _ {v : ℕ} {q : Query} {s : Spans} {held start : List ℕ} {at a e : ℕ
         tree_left : Evaluates t after last (length (drop (3 * k) rest)) vs (at + k) body (bodied v (first r.coming) q)
         tree_left = w (first r.coming) tree_is
 
-        pub turn_next : {i : ℕ} → body.made ≡ Made.Done i → length last ≡ length after → Rounds v q s held start at a e last (take (3 * k) rest ++ vs) body.scope next (k + i)
+        pub turn_next : {i : ℕ} → body.made ≡ Std.Ok i → length last ≡ length after → Rounds v q s held start at a e last (take (3 * k) rest ++ vs) body.scope next (k + i)
         turn_next {i} p n =
             record {
               kept = behind_kept b turn_behind tree_left;

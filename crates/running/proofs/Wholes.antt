@@ -1,5 +1,6 @@
 -- A query's evaluation from those of its parts, as the members of the cycle do it.
 -- Assumes nothing.
+use Rattle.std.specs.Prelude as Std
 use mathlib.Core.Path.{◌≡◌, refl, sym, ap, subst, ◌∙◌}
 use mathlib.Core.Bool.{Bool, false}
 use mathlib.Core.List.{List, ◌∷◌, ◌++◌}
@@ -17,8 +18,7 @@ use Rattle.spans.specs.declared.Span.{Span}
 use Rattle.spans.specs.declared.Spans.{Spans}
 use Rattle.spans.specs.Shows.{start, stop, bound, part, Shows}
 use Rattle.spans.proofs.Binding.{unbind_bind, shows_bind, shows_below}
-use Rattle.copies.specs.declared.Made.{Made}
-use Rattle.copies.specs.Fills.{Filled}
+use Rattle.copies.specs.Fills.{Made, no_room, Filled}
 use Rattle.copies.proofs.Filling.{filled_none, filled_blank}
 use Rattle.picks.specs.Picks.{Picks, Within}
 use Rattle.moves.specs.Moves.{Room, Wraps, Moves}
@@ -40,11 +40,11 @@ over_length n xs ys h e = length-append (take n xs) ys ∙ omega (arith, length-
 
 module _ {s : Spans} {held rest : List ℕ} {at : ℕ} (b : Begins s held rest at) where
   -- what a part got, in the environment that there is
-  pub part_got : {after us : List ℕ} {r : Step} {o : ℕ → Env → ℕ → Out Forest} {k : ℕ} → Evaluates s held after (length rest) us at r o → r.made ≡ Made.Done k → Got (length rest) us k (o (at + length rest / 3) b.env at)
+  pub part_got : {after us : List ℕ} {r : Step} {o : ℕ → Env → ℕ → Out Forest} {k : ℕ} → Evaluates s held after (length rest) us at r o → r.made ≡ Std.Ok k → Got (length rest) us k (o (at + length rest / 3) b.env at)
   part_got w e = left_done e (w.is b.env b.shows)
 
   -- NOTHING
-  pub nothing_leaves : {us : List ℕ} (n : ℕ) → us ≡ rest → Evaluates s held held (length rest) us at (record { made = Made.Done 0; scope = s }) (valued (Queries.nothing n))
+  pub nothing_leaves : {us : List ℕ} (n : ℕ) → us ≡ rest → Evaluates s held held (length rest) us at (record { made = Std.Ok 0; scope = s }) (valued (Queries.nothing n))
   nothing_leaves n u = record { kept = refl; below = refl; is = λ env h. left_as (nothing_is (at + length rest / 3) n env at) (done (filled_none (u ∙ b.blank))) }
 
   -- A COPY
@@ -64,11 +64,11 @@ module _ {s : Spans} {held rest : List ℕ} {at : ℕ} (b : Begins s held rest a
     pub behind_below : take (3 * at) last ≡ take (3 * at) held
     behind_below = fewer after last (at + k) at (omega arith) w.below ∙ x.kept
 
-    pub behind_room : {m : ℕ} → r.made ≡ Made.Done m → Room (length rest) k m
+    pub behind_room : {m : ℕ} → r.made ≡ Std.Ok m → Room (length rest) k m
     behind_room e = let g = left_done e (behind_left b.env b.shows) in record { few = omega (arith, b.few, b.whole); fits = omega (arith, g.filled.fits, x.fits) }
 
   -- behind a part, and behind a source that is held
-  module _ {us after : List ℕ} {r : Step} {o : ℕ → Env → ℕ → Out Forest} {k : ℕ} (w : Evaluates s held after (length rest) us at r o) (e : r.made ≡ Made.Done k) (long : length after ≡ length held) where
+  module _ {us after : List ℕ} {r : Step} {o : ℕ → Env → ℕ → Out Forest} {k : ℕ} (w : Evaluates s held after (length rest) us at r o) (e : r.made ≡ Std.Ok k) (long : length after ≡ length held) where
     pub behind_part : Behind s held rest at k r.scope after (drop (3 * k) us)
     behind_part = let g = part_got w e in record { fits = g.filled.fits; same = w.kept; long = long; kept = w.below; blank = filled_blank g.filled }
 
@@ -88,11 +88,11 @@ module _ {s : Spans} {held rest : List ℕ} {at : ℕ} (b : Begins s held rest a
 
   -- ELEMENT
   module _ (n l : ℕ) (q : Query) where
-    pub element_stops : {us : List ℕ} → length rest < 3 → Evaluates s held held (length rest) us at (record { made = Made.Full n; scope = s }) (valued (Queries.element n l q))
+    pub element_stops : {us : List ℕ} → length rest < 3 → Evaluates s held held (length rest) us at (record { made = Std.Err (no_room n); scope = s }) (valued (Queries.element n l q))
     element_stops h = record { kept = refl; below = refl; is = λ env i. left_as (element_not (at + length rest / 3) n env at l q (omega (arith, b.whole))) full }
 
-    pub element_leaves : {last vs us : List ℕ} {k : ℕ} {t : Spans} → (h : 3 ≤ length rest) → Evaluates s held last (length (drop 3 rest)) vs (at + 1) (record { made = Made.Done k; scope = t }) (valued q) → length vs ≡ length (drop 3 rest)
-        → Wraps (take 3 rest ++ vs) us l k → Evaluates s held last (length rest) us at (record { made = Made.Done (1 + k); scope = t }) (valued (Queries.element n l q))
+    pub element_leaves : {last vs us : List ℕ} {k : ℕ} {t : Spans} → (h : 3 ≤ length rest) → Evaluates s held last (length (drop 3 rest)) vs (at + 1) (record { made = Std.Ok k; scope = t }) (valued q) → length vs ≡ length (drop 3 rest)
+        → Wraps (take 3 rest ++ vs) us l k → Evaluates s held last (length rest) us at (record { made = Std.Ok (1 + k); scope = t }) (valued (Queries.element n l q))
     element_leaves {vs = vs} h w long z =
         let x = behind_first b h in
         record {
@@ -101,12 +101,12 @@ module _ {s : Spans} {held rest : List ℕ} {at : ℕ} (b : Begins s held rest a
           is = λ env i. left_as (element_is (at + length rest / 3) n env at l q (omega (arith, b.whole))) (left_wrap (over_length 3 rest vs h long) (over_drop 3 rest vs h) z (behind_left x w env i));
         }
 
-    pub element_room : {last vs : List ℕ} {k : ℕ} {t : Spans} → (h : 3 ≤ length rest) → Evaluates s held last (length (drop 3 rest)) vs (at + 1) (record { made = Made.Done k; scope = t }) (valued q) → length vs ≡ length (drop 3 rest) → Room (length (take 3 rest ++ vs)) 1 k
+    pub element_room : {last vs : List ℕ} {k : ℕ} {t : Spans} → (h : 3 ≤ length rest) → Evaluates s held last (length (drop 3 rest)) vs (at + 1) (record { made = Std.Ok k; scope = t }) (valued q) → length vs ≡ length (drop 3 rest) → Room (length (take 3 rest ++ vs)) 1 k
     element_room {vs = vs} {k} h w long = subst (λ (m : ℕ). Room m 1 k) (sym (over_length 3 rest vs h long)) (behind_room (behind_first b h) w refl)
 
   -- PAIR
   module _ (n : ℕ) (p q : Query) {us after : List ℕ} {first : Step} (w : Evaluates s held after (length rest) us at first (valued p)) where
-    pub pair_leaves : {last vs : List ℕ} {second r : Step} {k : ℕ} (e : first.made ≡ Made.Done k) → length after ≡ length held → Evaluates first.scope after last (length (drop (3 * k) us)) vs (at + k) second (valued q) → r ≡ lifted k second
+    pub pair_leaves : {last vs : List ℕ} {second r : Step} {k : ℕ} (e : first.made ≡ Std.Ok k) → length after ≡ length held → Evaluates first.scope after last (length (drop (3 * k) us)) vs (at + k) second (valued q) → r ≡ lifted k second
         → Evaluates s held last (length rest) (take (3 * k) us ++ vs) at r (valued (Queries.pair n p q))
     pair_leaves {last} {vs} {second} {r} {k} e long v z =
         let x = behind_part w e long in
@@ -118,11 +118,11 @@ module _ {s : Spans} {held rest : List ℕ} {at : ℕ} (b : Begins s held rest a
 
   -- LET AND FOR: a source, held, and what follows it, moved down
   module _ (p whole : Query) (rule : Forest → ℕ → Env → ℕ → Out Forest) {us after : List ℕ} {source : Step} (w : Evaluates s held after (length rest) us at source (valued p)) where
-    module _ {k : ℕ} (e : source.made ≡ Made.Done k) (long : length after ≡ length held) (us_long : length us ≡ length rest) {final : List ℕ} (put : final ≡ stored after (3 * at) (take (3 * k) us)) (as_long : length final ≡ length after) where
+    module _ {k : ℕ} (e : source.made ≡ Std.Ok k) (long : length after ≡ length held) (us_long : length us ≡ length rest) {final : List ℕ} (put : final ≡ stored after (3 * at) (take (3 * k) us)) (as_long : length final ≡ length after) where
       pub bound_leaves : ((top : ℕ) (env : Env) (f : Forest) → eval top p env at ≡ ok f → size f ≡ k → eval top whole env at ≡ rule f top env (at + k))
-          → {last vs xs : List ℕ} {m : ℕ} {t : Spans} → ((f : Forest) → part final at (at + k) ≡ forest_words f → Evaluates source.scope final last (length (drop (3 * k) us)) vs (at + k) (record { made = Made.Done m; scope = t }) (rule f))
+          → {last vs xs : List ℕ} {m : ℕ} {t : Spans} → ((f : Forest) → part final at (at + k) ≡ forest_words f → Evaluates source.scope final last (length (drop (3 * k) us)) vs (at + k) (record { made = Std.Ok m; scope = t }) (rule f))
           → length vs ≡ length (drop (3 * k) us) → Moves (take (3 * k) us ++ vs) xs k m
-          → Evaluates s held last (length rest) xs at (record { made = Made.Done m; scope = t }) (valued whole)
+          → Evaluates s held last (length rest) xs at (record { made = Std.Ok m; scope = t }) (valued whole)
       bound_leaves law {vs = vs} v n z =
           let x = behind_held w e long put as_long in
           let a = among_held w e long put as_long in
@@ -137,8 +137,8 @@ module _ {s : Spans} {held rest : List ℕ} {at : ℕ} (b : Begins s held rest a
           }
 
   -- WHEN
-  module _ (n : ℕ) (c : Cond) (q : Query) {told : Bool} (h : Tells s.from s.to held told c) where
-    pub when_none : {us : List ℕ} → us ≡ rest → told ≡ false → Evaluates s held held (length rest) us at (record { made = Made.Done 0; scope = s }) (valued (Queries.when n c q))
+  module _ (n : ℕ) (c : Cond) (q : Query) {told : Bool} (h : Tells s held told c) where
+    pub when_none : {us : List ℕ} → us ≡ rest → told ≡ false → Evaluates s held held (length rest) us at (record { made = Std.Ok 0; scope = s }) (valued (Queries.when n c q))
     when_none u e = record { kept = refl; below = refl; is = λ env i. left_as (when_not (at + length rest / 3) n env at c q (sym (h.is env i) ∙ e)) (done (filled_none (u ∙ b.blank))) }
 
   -- INSIDE: the scope is as it was when its variable is unbound again
@@ -152,7 +152,7 @@ module _ {s : Spans} {held rest : List ℕ} {at : ℕ} (b : Begins s held rest a
       }
 
   -- what conditions and variables are given
-  pub places : Places s.from s.to held
+  pub places : Places s held
   places = record { is = λ v l. ((b.inside.is v l).0, omega (arith, (b.inside.is v l).1, b.room)) }
 
   pub within : {v : ℕ} → v ≤ 63 → Within s held v

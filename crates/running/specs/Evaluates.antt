@@ -1,15 +1,15 @@
 -- What the evaluator is given and what it leaves.
 -- Assumes nothing.
-use Rattle.std.specs.Prelude.{◌≡◌, List, ◌∷◌, ℕ, ◌+◌, ◌*◌, ◌/◌, ◌≤◌, ◌<◌, length, take}
+use Rattle.std.specs.Prelude.{◌≡◌, List, ◌∷◌, ℕ, ◌+◌, ◌*◌, ◌/◌, ◌≤◌, ◌<◌, length, take, Ok, Err}
 use Rattle.meaning.specs.Base.{Out, ok, refused, ◌>>=◌, zeros, forest_width}
 use Rattle.meaning.specs.Forests.{Forest, join, forest_words}
+use Rattle.meaning.specs.Records.{Node}
 use Rattle.meaning.specs.Queries.{Query}
 use Rattle.meaning.specs.Running.{Env, for_each, eval}
-use Rattle.uses.specs.Counts.{Coded}
+use Rattle.uses.specs.Counts.{Lowers}
 use Rattle.spans.specs.Shows.{part, Shows, Inside}
 use Rattle.spans.specs.declared.Spans.{Spans}
-use Rattle.copies.specs.Fills.{Filled}
-use Rattle.copies.specs.declared.Made.{Made}
+use Rattle.copies.specs.Fills.{Made, no_room, Filled}
 
 -- WHAT IT IS GIVEN: a part of the work table from entry `at` on, of whole entries and all zeros; room to hold as much; and a scope whose stretches lie
 -- among the first `at` entries held and show an environment
@@ -23,9 +23,9 @@ pub record Begins (s : Spans) (held rest : List ℕ) (at : ℕ) : Type 0 where
   pub shows : Shows held s env
 
 -- and node n of the query table
-pub record Ready (code : List ℕ) (nodes : ℕ) (s : Spans) (held rest : List ℕ) (at n : ℕ) : Type 0 where
-  pub coded : Coded code nodes
-  pub low : n < nodes
+pub record Ready (C : List Node) (s : Spans) (held rest : List ℕ) (at n : ℕ) : Type 0 where
+  pub lowers : Lowers C
+  pub low : n < length C
   pub begins : Begins s held rest at
 
 -- a forest that is held among the first n entries
@@ -42,8 +42,8 @@ pub record Step : Type 0 where
 
 -- WHAT IT LEAVES in a part of so many words, where o is the meaning of it: a forest, or refusal 21
 pub data Left (room : ℕ) (us : List ℕ) : Made → Out Forest → Type 0 where
-  done : {k : ℕ} {f : Forest} → Filled room us k f → Left room us (Made.Done k) (ok f)
-  full : {n : ℕ} → Left room us (Made.Full n) (refused 21 n)
+  done : {k : ℕ} {f : Forest} → Filled room us k f → Left room us (Ok k) (ok f)
+  full : {n : ℕ} → Left room us (Err (no_room n)) (refused 21 n)
 
 -- the scope and the first `at` entries held are as they were, and for every environment that they show an evaluation in that work table is left
 pub record Evaluates (s : Spans) (held after : List ℕ) (room : ℕ) (us : List ℕ) (at : ℕ) (r : Step) (o : ℕ → Env → ℕ → Out Forest) : Type 0 where

@@ -1,33 +1,38 @@
 -- The evaluator as a loop over a stack: the spots where nodes are evaluated, what stands inside a node that is begun, and what a step leaves.
 -- Assumes nothing.
-use Rattle.std.specs.Prelude.{◌≡◌, true, List, [], ◌∷◌, ◌++◌, ℕ, zero, suc, ◌+◌, ◌*◌, ◌-◌, ◌≤◌, ◌<◌, length, get_or, take, drop}
+use Rattle.std.specs.Prelude.{◌≡◌, true, List, [], ◌∷◌, ◌++◌, ℕ, zero, suc, ◌+◌, ◌*◌, ◌-◌, ◌≤◌, ◌<◌, length, get_or, take, drop, Option, Some, None, Result, Ok, Err}
 use Rattle.meaning.specs.Records.{Node}
 use Rattle.meaning.specs.Queries as Queries
 use Rattle.meaning.specs.Queries.{Query, Cond, query_at}
 use Rattle.meaning.specs.Running.{Env, holds}
-use Rattle.words.specs.Tables.{stored, code_of}
-use Rattle.uses.specs.Counts.{Coded}
-use Rattle.spans.specs.Shows.{standing, bound, Shows}
+use Rattle.words.specs.Tables.{stored}
+use Rattle.uses.specs.Counts.{Lowers}
+use Rattle.spans.specs.Shows.{nowhere, standing, bound, Shows}
 use Rattle.spans.specs.declared.Spans.{Spans}
-use Rattle.copies.specs.declared.Made.TheVariants as Made
+use Rattle.refusals.specs.declared.Refusal.{Refusal}
 use Rattle.truths.specs.Tells.{Places}
 use Rattle.running.specs.declared.Frame.{Frame}
 use Rattle.running.specs.declared.Next.{Next}
+use Rattle.running.specs.declared.Stack.{Stack}
+use Rattle.copies.specs.Fills.{Made}
 use Rattle.running.specs.Evaluates.{Step, Ready, Evaluates, Rounds, valued}
 
--- A FRAME is six words of the stack, two entries of three
-unfoldable pub frame_in : List ℕ → ℕ → Frame
-frame_in st i =
-    record {
-      node = get_or st (3 * (2 * i)) 0;
-      base = get_or st (3 * (2 * i) + 1) 0;
-      kept = get_or st (3 * (2 * i) + 2) 0;
-      next = get_or st (3 * (2 * i + 1)) 0;
-      hides = record { from = get_or st (3 * (2 * i + 1) + 1) 0; to = get_or st (3 * (2 * i + 1) + 2) 0 };
-    }
+-- A FRAME: a node's when it is begun
+abbrev pub fresh : ℕ → ℕ → Frame
+fresh n at = record { node = n; base = at; first = None; next = 0; hides = nowhere }
 
-unfoldable pub framed : List ℕ → ℕ → Frame → List ℕ
-framed st i f = stored (stored st (3 * (2 * i)) (f.node ∷ f.base ∷ f.kept ∷ [])) (3 * (2 * i + 1)) (f.next ∷ f.hides.from ∷ f.hides.to ∷ [])
+-- THE FRAMES OF A STACK, the last first
+unfoldable pub piled : List Frame → ℕ → List Frame
+piled fs zero = []
+piled fs (suc i) = get_or fs i (fresh 0 0) ∷ piled fs i
+
+abbrev pub pile : Stack → List Frame
+pile s = piled s.frames s.top
+
+-- one that is taken from these leaves those
+abbrev pub Taken : Option Frame → List Frame → List Frame → Type 0
+Taken None was now = was ≡ []
+Taken (Some f) was now = was ≡ f ∷ now
 
 -- A SPOT: a node that is to be evaluated, the entry from which on the work table is lent to it, and the scope, the forests held and the lent words then
 pub record Spot : Type 0 where
@@ -40,8 +45,8 @@ pub record Spot : Type 0 where
 abbrev pub spot : ℕ → ℕ → Spans → List ℕ → List ℕ → Spot
 spot n at s held rest = record { node = n; at = at; scope = s; held = held; rest = rest }
 
-abbrev pub Given : List ℕ → ℕ → Spot → Type 0
-Given code nodes x = Ready code nodes x.scope x.held x.rest x.at x.node
+abbrev pub Given : List Node → Spot → Type 0
+Given code x = Ready code x.scope x.held x.rest x.at x.node
 
 -- what a query leaves at a spot, and with an answer of k entries
 pub record Answers (q : Query) (x : Spot) (r : Step) (after us : List ℕ) : Type 0 where
@@ -50,7 +55,7 @@ pub record Answers (q : Query) (x : Spot) (r : Step) (after us : List ℕ) : Typ
   pub wide : length us ≡ length x.rest
 
 abbrev pub Gave : Query → Spot → ℕ → List ℕ → List ℕ → Type 0
-Gave q x k after us = Answers q x (record { made = Made.Done k; scope = x.scope }) after us
+Gave q x k after us = Answers q x (record { made = Ok k; scope = x.scope }) after us
 
 -- a forest of k entries held from the spot's entry on
 abbrev pub holding : Spot → ℕ → List ℕ → List ℕ → List ℕ
@@ -113,29 +118,29 @@ pub record InFor (C : List Node) (v : ℕ) (p q : Query) (k : ℕ) (f : Frame) (
   pub front : pre ≡ take (3 * k) us ++ take (3 * m) vs
   pub is : y ≡ spot y.node (x.at + k + m) (bound x.scope v (record { from = j; to = f.next })) now_held (drop (3 * m) vs)
 
--- by what the frame keeps: 0, or one more than the entries of the first part
-abbrev pub Half : ℕ → Type 0 → (ℕ → Type 0) → Type 0
-Half zero A B = A
-Half (suc k) A B = B k
+-- by whether the first part is done, of so many entries
+abbrev pub Half : Option ℕ → Type 0 → (ℕ → Type 0) → Type 0
+Half None A B = A
+Half (Some k) A B = B k
 
 abbrev pub Within : List Node → Query → Frame → Spot → List ℕ → Spot → Type 0
 Within C (Queries.nothing n) f x pre y = ⊥
 Within C (Queries.text n t) f x pre y = ⊥
 Within C (Queries.element n l q) f x pre y = InElement C q x pre y
-Within C (Queries.pair n p q) f x pre y = Half f.kept (InFirst C p x pre y) (λ k. InPair C p q k x pre y)
+Within C (Queries.pair n p q) f x pre y = Half f.first (InFirst C p x pre y) (λ k. InPair C p q k x pre y)
 Within C (Queries.variable n v) f x pre y = ⊥
 Within C (Queries.child n v w) f x pre y = ⊥
 Within C (Queries.dos n v w) f x pre y = ⊥
-Within C (Queries.for n v p q) f x pre y = Half f.kept (InFirst C p x pre y) (λ k. InFor C v p q k f x pre y)
-Within C (Queries.let_in n v p q) f x pre y = Half f.kept (InFirst C p x pre y) (λ k. InLet C v p q k f x pre y)
+Within C (Queries.for n v p q) f x pre y = Half f.first (InFirst C p x pre y) (λ k. InFor C v p q k f x pre y)
+Within C (Queries.let_in n v p q) f x pre y = Half f.first (InFirst C p x pre y) (λ k. InLet C v p q k f x pre y)
 Within C (Queries.when n c q) f x pre y = InWhen C c q x pre y
 
-pub record Inner (code : List ℕ) (nodes : ℕ) (f : Frame) (x : Spot) (pre : List ℕ) (y : Spot) : Type 0 where
+pub record Inner (code : List Node) (f : Frame) (x : Spot) (pre : List ℕ) (y : Spot) : Type 0 where
   pub node : f.node ≡ x.node
   pub base : f.base ≡ x.at
   pub low : y.node < x.node
-  pub given : Given code nodes y
-  pub within : Within (code_of code nodes) (query_at (code_of code nodes) x.node) f x pre y
+  pub given : Given code y
+  pub within : Within code (query_at code x.node) f x pre y
 
 -- HOW MUCH there is to do: for a query, and for one of which a part is being done. A for has at most 8,192 trees.
 unfoldable pub weight : Query → ℕ
@@ -150,89 +155,94 @@ weight (Queries.for n v p q) = 3 + weight p + (weight q + 1) * 8192
 weight (Queries.let_in n v p q) = 3 + weight p + weight q
 weight (Queries.when n c q) = 2 + weight q
 
-abbrev pub half : ℕ → ℕ → (ℕ → ℕ) → ℕ
-half zero a b = a
-half (suc k) a b = b k
+abbrev pub half : Option ℕ → ℕ → (ℕ → ℕ) → ℕ
+half None a b = a
+half (Some k) a b = b k
 
 unfoldable pub still : Query → Frame → ℕ
 still (Queries.nothing n) f = 1
 still (Queries.text n t) f = 1
 still (Queries.element n l q) f = 1
-still (Queries.pair n p q) f = half f.kept (2 + weight q) (λ k. 1)
+still (Queries.pair n p q) f = half f.first (2 + weight q) (λ k. 1)
 still (Queries.variable n v) f = 1
 still (Queries.child n v w) f = 1
 still (Queries.dos n v w) f = 1
-still (Queries.for n v p q) f = half f.kept (2 + (weight q + 1) * 8192) (λ k. 1 + (weight q + 1) * (f.base + k - f.next))
-still (Queries.let_in n v p q) f = half f.kept (2 + weight q) (λ k. 1)
+still (Queries.for n v p q) f = half f.first (2 + (weight q + 1) * 8192) (λ k. 1 + (weight q + 1) * (f.base + k - f.next))
+still (Queries.let_in n v p q) f = half f.first (2 + weight q) (λ k. 1)
 still (Queries.when n c q) f = 1
 
--- STEPS: where the evaluation stands then, and the scope
+-- STEPS: where the evaluation stands then, or a refusal; and the scope
 pub record Turn : Type 0 where
-  pub next : Next
+  pub next : Result Next Refusal
   pub scope : Spans
 
-abbrev pub turn : Next → Spans → Turn
+abbrev pub turn : Result Next Refusal → Spans → Turn
 turn next s = record { next = next; scope = s }
 
--- up with what a node that begins at an entry made
-abbrev pub risen : Step → ℕ → ℕ → Turn
-risen s at top = record { next = Next.Up s.made at top; scope = s.scope }
+-- down at a node, and up with what a node that begins at an entry made
+abbrev pub sunk : ℕ → ℕ → Spans → Turn
+sunk node at s = turn (Ok (Next.Down node at)) s
+
+abbrev pub up_with : Made → ℕ → Result Next Refusal
+up_with (Ok k) at = Ok (Next.Up k at)
+up_with (Err e) at = Err e
+
+abbrev pub risen : Step → ℕ → Turn
+risen s at = turn (up_with s.made at) s.scope
 
 -- A STEP at spot x: the node is done, or it is begun and a part of it comes, with less to do than before
-pub data Steps (code : List ℕ) (nodes most : ℕ) (x : Spot) (after us st st' : List ℕ) (top : ℕ) (r : Turn) : Type 0 where
-  done : (s : Step) → Answers (query_at (code_of code nodes) x.node) x s after us → st' ≡ st → r ≡ risen s x.at top → Steps code nodes most x after us st st' top r
-  begun : (f : Frame) (pre : List ℕ) (y : Spot) → Inner code nodes f x pre y → still (query_at (code_of code nodes) x.node) f + weight (query_at (code_of code nodes) y.node) < most
-      → after ≡ y.held → us ≡ pre ++ y.rest → st' ≡ framed st top f → r ≡ record { next = Next.Down y.node y.at (suc top); scope = y.scope }
-      → Steps code nodes most x after us st st' top r
+pub data Steps (code : List Node) (most : ℕ) (x : Spot) (after us : List ℕ) (st st' : List Frame) (r : Turn) : Type 0 where
+  done : (s : Step) → Answers (query_at code x.node) x s after us → st' ≡ st → r ≡ risen s x.at → Steps code most x after us st st' r
+  begun : (f : Frame) (pre : List ℕ) (y : Spot) → Inner code f x pre y → still (query_at code x.node) f + weight (query_at code y.node) < most
+      → after ≡ y.held → us ≡ pre ++ y.rest → st' ≡ f ∷ st → r ≡ sunk y.node y.at y.scope
+      → Steps code most x after us st st' r
 
 -- what a when is given to judge its condition, node p
-pub record Guards (code : List ℕ) (nodes : ℕ) (s : Spans) (held : List ℕ) (at n p : ℕ) : Type 0 where
-  pub coded : Coded code nodes
-  pub low : n < nodes
+pub record Guards (code : List Node) (s : Spans) (held : List ℕ) (at n p : ℕ) : Type 0 where
+  pub lowers : Lowers code
+  pub low : n < length code
   pub lower : p < n
-  pub places : Places s.from s.to held
+  pub places : Places s held
   pub few : at ≤ 8192
 
 -- A STEP UP begins with frame f, spot y inside it, and k entries that y's node made
-pub record Returns (code : List ℕ) (nodes : ℕ) (f : Frame) (x : Spot) (pre : List ℕ) (y : Spot) (at k : ℕ) (s : Spans) (held rest : List ℕ) : Type 0 where
+pub record Returns (code : List Node) (f : Frame) (x : Spot) (pre : List ℕ) (y : Spot) (at k : ℕ) (s : Spans) (held rest : List ℕ) : Type 0 where
   pub vs : List ℕ
-  pub given : Given code nodes x
-  pub inner : Inner code nodes f x pre y
-  pub answers : Answers (query_at (code_of code nodes) y.node) y (record { made = Made.Done k; scope = s }) held vs
+  pub given : Given code x
+  pub inner : Inner code f x pre y
+  pub answers : Answers (query_at code y.node) y (record { made = Ok k; scope = s }) held vs
   pub part : rest ≡ pre ++ vs
   pub from : at ≡ y.at
 
-pub record Back (code : List ℕ) (nodes : ℕ) (f : Frame) (at k : ℕ) (s : Spans) (held rest : List ℕ) : Type 0 where
+pub record Back (code : List Node) (f : Frame) (at k : ℕ) (s : Spans) (held rest : List ℕ) : Type 0 where
   pub outer : Spot
   pub pre : List ℕ
   pub inner : Spot
-  pub returns : Returns code nodes f outer pre inner at k s held rest
+  pub returns : Returns code f outer pre inner at k s held rest
 
 -- of a node with two parts, the second being at node q
 pub record Waits (whole : ℕ → Query → Query → Query) (q : ℕ) (f : Frame) (at k : ℕ) (s : Spans) (held rest : List ℕ) : Type 0 where
-  pub code : List ℕ
-  pub nodes : ℕ
-  pub back : Back code nodes f at k s held rest
+  pub code : List Node
+  pub back : Back code f at k s held rest
   pub first : Query
-  pub is : query_at (code_of code nodes) back.outer.node ≡ whole back.outer.node first (query_at (code_of code nodes) q)
+  pub is : query_at code back.outer.node ≡ whole back.outer.node first (query_at code q)
   pub low : q < back.outer.node
 
 -- A ROUND of a for begins with its source held and m entries of bodies behind it
 pub record Looping (v q : ℕ) (f : Frame) (m : ℕ) (s : Spans) (held rest : List ℕ) : Type 0 where
-  pub code : List ℕ
-  pub nodes : ℕ
+  pub code : List Node
   pub outer : Spot
-  pub given : Given code nodes outer
+  pub given : Given code outer
   pub node : f.node ≡ outer.node
   pub base : f.base ≡ outer.at
   pub first : Query
-  pub is : query_at (code_of code nodes) outer.node ≡ Queries.for outer.node v first (query_at (code_of code nodes) q)
+  pub is : query_at code outer.node ≡ Queries.for outer.node v first (query_at code q)
   pub low : q < outer.node
   pub k : ℕ
-  pub kept : f.kept ≡ suc k
+  pub kept : f.first ≡ Some k
   pub after : List ℕ
   pub us : List ℕ
   pub gave : Gave first outer k after us
   pub vs : List ℕ
-  pub rounds : Rounds v (query_at (code_of code nodes) q) outer.scope (holding outer k after us) (drop (3 * k) us) (outer.at + k) outer.at (outer.at + k) held vs s f.next m
+  pub rounds : Rounds v (query_at code q) outer.scope (holding outer k after us) (drop (3 * k) us) (outer.at + k) outer.at (outer.at + k) held vs s f.next m
   pub part : rest ≡ take (3 * k) us ++ vs

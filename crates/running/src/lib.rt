@@ -1,451 +1,387 @@
 // The evaluator: a query's forest, from a node of the query table, at the front of the part of the work table that is lent to it. One loop does it, with
-// what is begun on a lent stack: a frame is six words. A source that let or for binds is held in a second table, where its variable finds it. The scope
-// comes by value; its two arrays are lent to each step that looks a variable up, binds it before a body or unbinds it after that. Parts have lower nodes, so
-// there are never more frames than nodes.
+// what is begun on a stack of frames. A source that let or for binds is held in a second table, where its variable finds it. The scope comes by value; it is
+// lent to each step that looks a variable up, binds it before a body or unbinds it after that.
 #![tactic(auto)]
 
-ghost use Rattle.std.specs.Prelude.{◌≡◌, List, ℕ, suc, ◌+◌, ◌*◌, ◌≤◌, ◌<◌, length};
+ghost use Rattle.std.specs.Prelude.{◌≡◌, List, [], ◌∷◌, ℕ, ◌+◌, ◌*◌, ◌≤◌, ◌<◌, length, Ok, Some};
 ghost use Rattle.meaning.specs.Queries as Queries;
 ghost use Rattle.meaning.specs.Queries.{query_at, cond_at};
-ghost use Rattle.words.specs.Tables.{code_of};
-ghost use Rattle.spans.specs.Shows.{scope};
+ghost use Rattle.meaning.specs.Records.{Node};
 ghost use Rattle.running.specs.declared.Next.TheVariants as Stands;
 ghost use Rattle.running.specs.Evaluates.{Ready, Evaluated};
-ghost use Rattle.running.specs.Machine.{spot, turn, frame_in, framed, weight, still, Waits, Back, Looping, Guards, Steps};
+ghost use Rattle.running.specs.Machine.{spot, turn, fresh, pile, Taken, weight, still, Waits, Back, Looping, Guards, Steps};
 
-use copies::Made;
 use queries::Query;
+use refusals::{Reason, Refusal};
 use spans::{Span, Spans};
+use tables::Nodes;
 
-// A node that is begun: the entry of the work table at which it begins; 0 while its first part is done, and one more than that part's entries while its
-// second is; of a for, the held entry at which its next tree begins; and the stretch that its variable hides.
-#[derive(Drop)]
+// A node that is begun: the entry of the work table at which it begins; how many entries its first part has, once that is done; of a for, the held entry at
+// which its next tree begins; and the stretch that its variable hides.
+#[derive(Clone, Copy)]
 struct Frame {
     node: u16,
     base: u16,
-    kept: u16,
+    first: Option<u16>,
     next: u16,
     hides: Span,
 }
 
-// Where the evaluation stands, with so many frames on its stack: down at a node that is to be done from an entry on, or up with what a node made there.
-#[derive(Drop)]
+// Where the evaluation stands: down at a node that is to be done from an entry on, or up with so many entries that a node made there.
+#[derive(Clone, Copy)]
 enum Next {
-    Down { node: usize, at: usize, top: usize },
-    Up { made: Made, at: usize, top: usize },
+    Down { node: usize, at: usize },
+    Up { made: usize, at: usize },
 }
 
-// The frame over i others.
-fn frame_at(stack: &[u16], i: usize) -> Frame
-    requires { 6 * i + 6 ≤ length stack.now }
-    ensures { result ≡ frame_in stack.now i }
-{
-    let x = words::read_entry(stack, 2 * i);
-    let y = words::read_entry(stack, 2 * i + 1);
-    let from = y.a;
-    let to = y.b;
-    let hides = Span { from, to };
-    let node = x.kind;
-    let base = x.a;
-    let kept = x.b;
-    let next = y.kind;
-    Frame {
-        node,
-        base,
-        kept,
-        next,
-        hides,
+impl Frame {
+    // Of node n, which begins at an entry.
+    fn new(n: usize, base: usize) -> Frame
+        requires { (n < 1024) × (base ≤ 8192) }
+        ensures { result ≡ fresh n base }
+    {
+        Frame {
+            node: n as u16,
+            base: base as u16,
+            first: None,
+            next: 0,
+            hides: Span { from: 0, to: 0 },
+        }
     }
 }
 
-// Down into a part of the node that is the frame over i others.
-fn go_on(stack: &mut [u16], i: usize, f: Frame, part: u16, at: usize) -> Next
-    requires { 6 * i + 6 ≤ length stack.old }
-    ensures fact_1 { result ≡ Stands.Down part at (suc i) }
-    ensures fact_2 { stack.new ≡ framed stack.old i f }
+// The nodes that are begun, one inside another. Parts have lower nodes, so there is room for all.
+#[derive(Drop)]
+struct Stack {
+    frames: [Frame; 1024],
+    top: usize,
+}
+
+impl Stack {
+    #[tactic(auto, unfolding(crate::specs::Machine::piled))]
+    fn new() -> Stack
+        ensures { pile result ≡ [] }
+    {
+        Stack {
+            frames: [Frame::new(0, 0); 1024],
+            top: 0,
+        }
+    }
+
+    #[tactic(auto, using(crate::proofs::Frames::piled_length, crate::proofs::Frames::pile_more))]
+    fn push(&mut self, f: Frame)
+        requires { length (pile self.old) < 1024 }
+        ensures { pile self.new ≡ f ∷ pile self.old }
+    {
+        self.frames[self.top] = f;
+        self.top += 1;
+    }
+
+    #[tactic(auto, using(crate::proofs::Frames::piled_length, crate::proofs::Frames::pile_none, crate::proofs::Frames::pile_last))]
+    fn pop(&mut self) -> Option<Frame>
+        requires { length (pile self.old) ≤ 1024 }
+        ensures { Taken result (pile self.old) (pile self.new) }
+    {
+        if self.top == 0 {
+            return None;
+        }
+        self.top -= 1;
+        Some(self.frames[self.top])
+    }
+}
+
+// Down into a part of the node whose frame this is.
+fn go_on(stack: &mut Stack, f: Frame, part: u16, at: usize) -> Next
+    requires { length (pile stack.old) < 1024 }
+    ensures next { result ≡ Stands.Down part at }
+    ensures stacked { pile stack.new ≡ f ∷ pile stack.old }
 {
-    let row = 2 * i;
-    words::put_entry(stack, row, f.node, f.base, f.kept);
-    words::put_entry(stack, row + 1, f.next, f.hides.from, f.hides.to);
-    let node = words::wide(part);
-    let top = i + 1;
-    Next::Down { node, at, top }
+    stack.push(f);
+    Next::Down {
+        node: usize::from(part),
+        at,
+    }
 }
 
 // Down into the first part of node n, which becomes a frame.
-fn begin(stack: &mut [u16], top: usize, n: usize, base: usize, part: u16, at: usize) -> Next
-    requires { (6 * top + 6 ≤ length stack.old) × ((n < 1024) × (base ≤ 8192)) }
-    ensures { (result ≡ Stands.Down part at (suc top)) × (stack.new ≡ framed stack.old top (record { node = n; base = base; kept = 0; next = 0; hides = record { from = 0; to = 0 } })) }
+fn begin(stack: &mut Stack, n: usize, base: usize, part: u16, at: usize) -> Next
+    requires room { length (pile stack.old) < 1024 }
+    requires few { n < 1024 }
+    requires low { base ≤ 8192 }
+    ensures next { result ≡ Stands.Down part at }
+    ensures stacked { pile stack.new ≡ fresh n base ∷ pile stack.old }
 {
-    let hides = Span { from: 0, to: 0 };
-    let node = n as u16;
-    let from = base as u16;
-    let f = Frame {
-        node,
-        base: from,
-        kept: 0,
-        next: 0,
-        hides,
-    };
-    go_on(stack, top, f, part, at)
+    go_on(stack, Frame::new(n, base), part, at)
 }
 
 // An element: room for its entry, and then down into its body behind that.
-fn entered(stack: &mut [u16], top: usize, room: usize, n: usize, q: u16, at: usize) -> Next
-    requires fact_1 { 6 * top + 6 ≤ length stack.old }
-    requires fact_2 { n < 1024 }
-    requires fact_3 { at ≤ 8192 }
-    ensures { (code held rest : List ℕ) (nodes l : ℕ) (s : Spans) → room ≡ length rest → Ready code nodes s held rest at n → query_at (code_of code nodes) n ≡ Queries.element n l (query_at (code_of code nodes) q) → q < n → Steps code nodes (weight (query_at (code_of code nodes) n)) (spot n at s held rest) held rest stack.old stack.new top (turn result s) }
+fn entered(stack: &mut Stack, room: usize, n: usize, q: u16, at: usize) -> Result<Next, Refusal>
+    requires room { length (pile stack.old) < 1024 }
+    requires few { n < 1024 }
+    requires low { at ≤ 8192 }
+    ensures { (code : List Node) (held rest : List ℕ) (l : ℕ) (s : Spans) → room ≡ length rest → Ready code s held rest at n → query_at code n ≡ Queries.element n l (query_at code q) → q < n → Steps code (weight (query_at code n)) (spot n at s held rest) held rest (pile stack.old) (pile stack.new) (turn result s) }
 {
     if room < 3 {
-        let made = Made::Full(n);
-        return Next::Up { made, at, top };
+        return Err(Refusal {
+            reason: Reason::WorkFull,
+            place: n,
+        });
     }
     let inside = at + 1;
-    begin(stack, top, n, at, q, inside)
+    Ok(begin(stack, n, at, q, inside))
 }
 
 // when: its condition, and then down into its part; or nothing.
 fn guarded(
-    code: &[u16],
-    nodes: usize,
-    froms: &[u16; 64],
-    tos: &[u16; 64],
+    code: &Nodes,
+    scope: &Spans,
     held: &[u16],
-    stack: &mut [u16],
-    top: usize,
+    stack: &mut Stack,
     n: usize,
     p: u16,
     q: u16,
     at: usize,
 ) -> Next
-    requires fact_1 { Guards code.now nodes (scope froms.now tos.now) held.now at n p }
-    requires fact_2 { 6 * top + 6 ≤ length stack.old }
-    ensures { (rest : List ℕ) → Ready code.now nodes (scope froms.now tos.now) held.now rest at n → query_at (code_of code.now nodes) n ≡ Queries.when n (cond_at (code_of code.now nodes) p) (query_at (code_of code.now nodes) q) → q < n → Steps code.now nodes (weight (query_at (code_of code.now nodes) n)) (spot n at (scope froms.now tos.now) held.now rest) held.now rest stack.old stack.new top (turn result (scope froms.now tos.now)) }
+    requires guards { Guards code.now scope.now held.now at n p }
+    requires room { length (pile stack.old) < 1024 }
+    ensures { (rest : List ℕ) → Ready code.now scope.now held.now rest at n → query_at code.now n ≡ Queries.when n (cond_at code.now p) (query_at code.now q) → q < n → Steps code.now (weight (query_at code.now n)) (spot n at scope.now held.now rest) held.now rest (pile stack.old) (pile stack.new) (turn (Ok result) scope.now) }
 {
-    if truths::truth(code, nodes, words::wide(p), froms, tos, held) {
-        return begin(stack, top, n, at, q, at);
+    if truths::truth(code, usize::from(p), scope, held) {
+        return begin(stack, n, at, q, at);
     }
-    let made = Made::Done(0);
-    Next::Up { made, at, top }
+    Next::Up { made: 0, at }
 }
 
 // A step down at node n, which the rest from an entry on is lent to.
 fn down(
-    code: &[u16],
-    nodes: usize,
-    froms: &[u16; 64],
-    tos: &[u16; 64],
+    code: &Nodes,
+    scope: &Spans,
     held: &[u16],
     rest: &mut [u16],
     at: usize,
     n: usize,
-    stack: &mut [u16],
-    top: usize,
-) -> Next
-    requires fact_1 { Ready code.now nodes (scope froms.now tos.now) held.now rest.old at n }
-    requires fact_2 { 6 * top + 6 ≤ length stack.old }
-    ensures { Steps code.now nodes (weight (query_at (code_of code.now nodes) n)) (spot n at (scope froms.now tos.now) held.now rest.old) held.now rest.new stack.old stack.new top (turn result (scope froms.now tos.now)) }
+    stack: &mut Stack,
+) -> Result<Next, Refusal>
+    requires ready { Ready code.now scope.now held.now rest.old at n }
+    requires room { length (pile stack.old) < 1024 }
+    ensures { Steps code.now (weight (query_at code.now n)) (spot n at scope.now held.now rest.old) held.now rest.new (pile stack.old) (pile stack.new) (turn result scope.now) }
 {
     let query = queries::read_query(code, n);
     match query {
-        Query::Nothing => {
-            let made = Made::Done(0);
-            Next::Up { made, at, top }
-        }
+        Query::Nothing => Ok(Next::Up { made: 0, at }),
         Query::Text(t) => {
-            let made = picks::text(rest, n, t);
-            Next::Up { made, at, top }
+            let made = picks::text(rest, n, t)?;
+            Ok(Next::Up { made, at })
         }
-        Query::Element(_, q) => entered(stack, top, rest.len(), n, q, at),
-        Query::Pair(p, _) => begin(stack, top, n, at, p, at),
+        Query::Element(_, q) => entered(stack, rest.len(), n, q, at),
+        Query::Pair(p, _) => Ok(begin(stack, n, at, p, at)),
         Query::Variable(v) => {
-            let made = picks::variable(froms, tos, held, rest, n, v);
-            Next::Up { made, at, top }
+            let made = picks::variable(scope, held, rest, n, v)?;
+            Ok(Next::Up { made, at })
         }
         Query::Child(v, test) => {
-            let made = picks::child(froms, tos, held, rest, n, v, test);
-            Next::Up { made, at, top }
+            let made = picks::child(scope, held, rest, n, v, test)?;
+            Ok(Next::Up { made, at })
         }
         Query::Dos(v, test) => {
-            let made = picks::dos(froms, tos, held, rest, n, v, test);
-            Next::Up { made, at, top }
+            let made = picks::dos(scope, held, rest, n, v, test)?;
+            Ok(Next::Up { made, at })
         }
-        Query::For(_, p, _) => begin(stack, top, n, at, p, at),
-        Query::Let(_, p, _) => begin(stack, top, n, at, p, at),
-        Query::When(p, q) => { guarded(code, nodes, froms, tos, held, stack, top, n, p, q, at) }
+        Query::For(_, p, _) => Ok(begin(stack, n, at, p, at)),
+        Query::Let(_, p, _) => Ok(begin(stack, n, at, p, at)),
+        Query::When(p, q) => Ok(guarded(code, scope, held, stack, n, p, q, at)),
     }
 }
 
 // A pair with k entries made from an entry on: by its first part, and then comes its second behind them; or by its second.
-fn paired(stack: &mut [u16], i: usize, f: Frame, q: u16, at: usize, k: usize) -> Next
-    requires fact_1 { 6 * i + 6 ≤ length stack.old }
-    requires fact_2 { at + k ≤ 8192 }
-    requires fact_3 { f.kept + k ≤ 8193 }
-    ensures { (s : Spans) (held rest : List ℕ) (w : Waits (λ n p r. Queries.pair n p r) q f at k s held rest) → Steps w.code w.nodes (still (query_at (code_of w.code w.nodes) w.back.outer.node) f) w.back.outer held rest stack.old stack.new i (turn result s) }
+fn paired(stack: &mut Stack, f: Frame, q: u16, at: usize, k: usize) -> Next
+    requires room { length (pile stack.old) < 1024 }
+    requires few { at + k ≤ 8192 }
+    ensures { (s : Spans) (held rest : List ℕ) (w : Waits (λ n p r. Queries.pair n p r) q f at k s held rest) → Steps w.code (still (query_at w.code w.back.outer.node) f) w.back.outer held rest (pile stack.old) (pile stack.new) (turn (Ok result) s) }
 {
-    if f.kept == 0 {
-        let kept = k as u16 + 1;
-        let hides = f.hides;
-        let g = Frame {
-            node: f.node,
-            base: f.base,
-            kept,
-            next: 0,
-            hides,
-        };
-        return go_on(stack, i, g, q, at + k);
-    }
-    let first = words::wide(f.kept) - 1;
-    let both = first + k;
-    let made = Made::Done(both);
-    let base = words::wide(f.base);
-    Next::Up {
-        made,
-        at: base,
-        top: i,
+    match f.first {
+        None => {
+            let first = Some(k as u16);
+            go_on(stack, Frame { first, ..f }, q, at + k)
+        }
+        Some(first) => Next::Up {
+            made: usize::from(first) + k,
+            at: usize::from(f.base),
+        },
     }
 }
 
 // let with k entries made from an entry on: by its source, which is held for its variable, and then comes its body; or by its body, which is moved down.
 fn named(
-    froms: &mut [u16; 64],
-    tos: &mut [u16; 64],
+    scope: &mut Spans,
     held: &mut [u16],
     rest: &mut [u16],
-    stack: &mut [u16],
-    i: usize,
+    stack: &mut Stack,
     f: Frame,
     v: u16,
     q: u16,
     at: usize,
     k: usize,
 ) -> Next
-    requires fact_1 { 6 * i + 6 ≤ length stack.old }
-    requires fact_2 { v ≤ 63 }
-    requires fact_3 { Waits (λ n p r. Queries.let_in n v p r) q f at k (scope froms.old tos.old) held.old rest.old }
-    ensures { (w : Waits (λ n p r. Queries.let_in n v p r) q f at k (scope froms.old tos.old) held.old rest.old) → Steps w.code w.nodes (still (query_at (code_of w.code w.nodes) w.back.outer.node) f) w.back.outer held.new rest.new stack.old stack.new i (turn result (scope froms.new tos.new)) }
+    requires room { length (pile stack.old) < 1024 }
+    requires variable { v ≤ 63 }
+    requires waits { Waits (λ n p r. Queries.let_in n v p r) q f at k scope.old held.old rest.old }
+    ensures { (w : Waits (λ n p r. Queries.let_in n v p r) q f at k scope.old held.old rest.old) → Steps w.code (still (query_at w.code w.back.outer.node) f) w.back.outer held.new rest.new (pile stack.old) (pile stack.new) (turn (Ok result) scope.new) }
 {
-    let base = words::wide(f.base);
-    let w = words::wide(v);
-    if f.kept != 0 {
-        let hides = f.hides;
-        spans::unbind(froms, tos, w, hides);
-        moves::down(rest, words::wide(f.kept) - 1, k);
-        let made = Made::Done(k);
-        return Next::Up {
-            made,
-            at: base,
-            top: i,
-        };
+    let base = usize::from(f.base);
+    let variable = usize::from(v);
+    match f.first {
+        None => {
+            moves::hold(rest, k, held, base);
+            let to = (base + k) as u16;
+            let hides = scope.bind(variable, Span { from: f.base, to });
+            let first = Some(k as u16);
+            go_on(stack, Frame { first, hides, ..f }, q, at + k)
+        }
+        Some(first) => {
+            scope.unbind(variable, f.hides);
+            moves::down(rest, usize::from(first), k);
+            Next::Up { made: k, at: base }
+        }
     }
-    moves::hold(rest, k, held, base);
-    let end = base + k;
-    let to = end as u16;
-    let x = Span { from: f.base, to };
-    let hides = spans::bind(froms, tos, w, x);
-    let kept = k as u16 + 1;
-    let g = Frame {
-        node: f.node,
-        base: f.base,
-        kept,
-        next: 0,
-        hides,
-    };
-    go_on(stack, i, g, q, at + k)
 }
 
-// for with its source held and bodies of m entries behind it: the next tree's body, or, when there is none, all moved down.
+// for with its source of k entries held and bodies of m entries behind it: the next tree's body, or, when there is none, all moved down.
 fn round(
-    froms: &mut [u16; 64],
-    tos: &mut [u16; 64],
+    scope: &mut Spans,
     held: &[u16],
     rest: &mut [u16],
-    stack: &mut [u16],
-    i: usize,
+    stack: &mut Stack,
     f: Frame,
+    k: usize,
     v: u16,
     q: u16,
     m: usize,
 ) -> Next
-    requires fact_1 { 6 * i + 6 ≤ length stack.old }
-    requires fact_2 { v ≤ 63 }
-    requires fact_3 { Looping v q f m (scope froms.old tos.old) held.now rest.old }
-    ensures { (l : Looping v q f m (scope froms.old tos.old) held.now rest.old) → Steps l.code l.nodes (still (query_at (code_of l.code l.nodes) l.outer.node) f) l.outer held.now rest.new stack.old stack.new i (turn result (scope froms.new tos.new)) }
+    requires room { length (pile stack.old) < 1024 }
+    requires variable { v ≤ 63 }
+    requires first { f.first ≡ Some k }
+    requires looping { Looping v q f m scope.old held.now rest.old }
+    ensures { (l : Looping v q f m scope.old held.now rest.old) → Steps l.code (still (query_at l.code l.outer.node) f) l.outer held.now rest.new (pile stack.old) (pile stack.new) (turn (Ok result) scope.new) }
 {
-    let base = words::wide(f.base);
-    let k = words::wide(f.kept) - 1;
-    let j = words::wide(f.next);
+    let base = usize::from(f.base);
+    let j = usize::from(f.next);
     let end = base + k;
     if j < end {
-        let size = words::wide(held[3 * j + 2]) + 1;
+        let size = usize::from(held[3 * j + 2]) + 1;
         let tree = f.next;
-        let end_of_tree = words::wide(tree) + size;
-        let to = end_of_tree as u16;
-        let x = Span { from: tree, to };
-        let after = j + size;
-        let next = after as u16;
-        let hides = spans::bind(froms, tos, words::wide(v), x);
-        let g = Frame {
-            node: f.node,
-            base: f.base,
-            kept: f.kept,
-            next,
-            hides,
-        };
-        return go_on(stack, i, g, q, end + m);
+        let to = (usize::from(tree) + size) as u16;
+        let next = (j + size) as u16;
+        let hides = scope.bind(usize::from(v), Span { from: tree, to });
+        return go_on(stack, Frame { next, hides, ..f }, q, end + m);
     }
     moves::down(rest, k, m);
-    let made = Made::Done(m);
-    Next::Up {
-        made,
-        at: base,
-        top: i,
-    }
+    Next::Up { made: m, at: base }
 }
 
 // for with k entries made from an entry on: by its source, which is held for its variable; or by the body of one tree. Then comes the next tree.
 fn each(
-    froms: &mut [u16; 64],
-    tos: &mut [u16; 64],
+    scope: &mut Spans,
     held: &mut [u16],
     rest: &mut [u16],
-    stack: &mut [u16],
-    i: usize,
+    stack: &mut Stack,
     f: Frame,
     v: u16,
     q: u16,
     at: usize,
     k: usize,
 ) -> Next
-    requires fact_1 { 6 * i + 6 ≤ length stack.old }
-    requires fact_2 { v ≤ 63 }
-    requires fact_3 { Waits (λ n p r. Queries.for n v p r) q f at k (scope froms.old tos.old) held.old rest.old }
-    ensures { (w : Waits (λ n p r. Queries.for n v p r) q f at k (scope froms.old tos.old) held.old rest.old) → Steps w.code w.nodes (still (query_at (code_of w.code w.nodes) w.back.outer.node) f) w.back.outer held.new rest.new stack.old stack.new i (turn result (scope froms.new tos.new)) }
+    requires room { length (pile stack.old) < 1024 }
+    requires variable { v ≤ 63 }
+    requires waits { Waits (λ n p r. Queries.for n v p r) q f at k scope.old held.old rest.old }
+    ensures { (w : Waits (λ n p r. Queries.for n v p r) q f at k scope.old held.old rest.old) → Steps w.code (still (query_at w.code w.back.outer.node) f) w.back.outer held.new rest.new (pile stack.old) (pile stack.new) (turn (Ok result) scope.new) }
 {
-    let base = words::wide(f.base);
-    if f.kept != 0 {
-        let hides = f.hides;
-        spans::unbind(froms, tos, words::wide(v), hides);
-        let source = base + words::wide(f.kept) - 1;
-        let m = at - source + k;
-        return round(froms, tos, held, rest, stack, i, f, v, q, m);
+    let base = usize::from(f.base);
+    match f.first {
+        None => {
+            moves::hold(rest, k, held, base);
+            let first = Some(k as u16);
+            let g = Frame {
+                first,
+                next: f.base,
+                ..f
+            };
+            round(scope, held, rest, stack, g, k, v, q, 0)
+        }
+        Some(first) => {
+            scope.unbind(usize::from(v), f.hides);
+            let source = usize::from(first);
+            let m = at - (base + source) + k;
+            round(scope, held, rest, stack, f, source, v, q, m)
+        }
     }
-    moves::hold(rest, k, held, base);
-    let hides = f.hides;
-    let kept = k as u16 + 1;
-    let g = Frame {
-        node: f.node,
-        base: f.base,
-        kept,
-        next: f.base,
-        hides,
-    };
-    round(froms, tos, held, rest, stack, i, g, v, q, 0)
 }
 
-// A step up to the frame f over i others, whose part made k entries from an entry on; the rest is lent from where the frame's node begins.
+// A step up to the frame f, whose part made k entries from an entry on; the rest is lent from where the frame's node begins.
 fn up(
-    code: &[u16],
-    nodes: usize,
-    froms: &mut [u16; 64],
-    tos: &mut [u16; 64],
+    code: &Nodes,
+    scope: &mut Spans,
     held: &mut [u16],
     rest: &mut [u16],
     f: Frame,
     at: usize,
     k: usize,
-    stack: &mut [u16],
-    i: usize,
+    stack: &mut Stack,
 ) -> Next
-    requires fact_1 { Back code.now nodes f at k (scope froms.old tos.old) held.old rest.old }
-    requires fact_2 { 6 * i + 6 ≤ length stack.old }
-    ensures { (b : Back code.now nodes f at k (scope froms.old tos.old) held.old rest.old) → Steps code.now nodes (still (query_at (code_of code.now nodes) b.outer.node) f) b.outer held.new rest.new stack.old stack.new i (turn result (scope froms.new tos.new)) }
+    requires back { Back code.now f at k scope.old held.old rest.old }
+    requires room { length (pile stack.old) < 1024 }
+    ensures { (b : Back code.now f at k scope.old held.old rest.old) → Steps code.now (still (query_at code.now b.outer.node) f) b.outer held.new rest.new (pile stack.old) (pile stack.new) (turn (Ok result) scope.new) }
 {
-    let query = queries::read_query(code, words::wide(f.node));
+    let query = queries::read_query(code, usize::from(f.node));
     match query {
         Query::Element(l, _) => {
             moves::wrap(rest, l, k);
-            let all = 1 + k;
-            let made = Made::Done(all);
-            let base = words::wide(f.base);
             Next::Up {
-                made,
-                at: base,
-                top: i,
+                made: 1 + k,
+                at: usize::from(f.base),
             }
         }
-        Query::Pair(_, q) => paired(stack, i, f, q, at, k),
-        Query::For(v, _, q) => each(froms, tos, held, rest, stack, i, f, v, q, at, k),
-        Query::Let(v, _, q) => named(froms, tos, held, rest, stack, i, f, v, q, at, k),
-        _ => {
-            let made = Made::Done(k);
-            Next::Up { made, at, top: i }
-        }
+        Query::Pair(_, q) => paired(stack, f, q, at, k),
+        Query::For(v, _, q) => each(scope, held, rest, stack, f, v, q, at, k),
+        Query::Let(v, _, q) => named(scope, held, rest, stack, f, v, q, at, k),
+        _ => Next::Up { made: k, at },
     }
 }
 
-// The query at node n, at the front of `rest`, which begins at entry `first` of the work table. The stack has six words for each node.
+// The query at node n, at the front of `rest`, which begins at entry `first` of the work table: how many entries it has.
 pub fn eval(
-    code: &[u16],
-    nodes: usize,
-    scope: Spans,
+    code: &Nodes,
+    mut scope: Spans,
     held: &mut [u16],
     rest: &mut [u16],
     first: usize,
     n: usize,
-    stack: &mut [u16],
-) -> Made
-    requires fact_1 { Ready code.now nodes scope held.old rest.old first n }
-    requires fact_2 { 6144 ≤ length stack.old }
-    ensures { Evaluated scope held.old (length rest.old) rest.new first result (query_at (code_of code.now nodes) n) }
+) -> Result<usize, Refusal>
+    requires { Ready code.now scope held.old rest.old first n }
+    ensures { Evaluated scope held.old (length rest.old) rest.new first result (query_at code.now n) }
 {
-    let mut froms = scope.from;
-    let mut tos = scope.to;
-    let mut next = Next::Down {
-        node: n,
-        at: first,
-        top: 0,
-    };
+    let mut stack = Stack::new();
+    let mut next = Next::Down { node: n, at: first };
     loop {
         match next {
-            Next::Down { node, at, top } => {
+            Next::Down { node, at } => {
                 let from = 3 * (at - first);
-                next = down(
-                    code,
-                    nodes,
-                    &froms,
-                    &tos,
-                    held,
-                    &mut rest[from..],
-                    at,
-                    node,
-                    stack,
-                    top,
-                );
+                next = down(code, &scope, held, &mut rest[from..], at, node, &mut stack)?;
             }
-            Next::Up { made, at, top } => {
-                let Made::Done(k) = made else {
-                    return made;
+            Next::Up { made, at } => {
+                let Some(f) = stack.pop() else {
+                    return Ok(made);
                 };
-                if top == 0 {
-                    return made;
-                }
-                let i = top - 1;
-                let f = frame_at(stack, i);
-                let from = 3 * (words::wide(f.base) - first);
+                let from = 3 * (usize::from(f.base) - first);
                 next = up(
                     code,
-                    nodes,
-                    &mut froms,
-                    &mut tos,
+                    &mut scope,
                     held,
                     &mut rest[from..],
                     f,
                     at,
-                    k,
-                    stack,
-                    i,
+                    made,
+                    &mut stack,
                 );
             }
         }

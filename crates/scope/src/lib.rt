@@ -1,110 +1,87 @@
-// The variables in scope, by value: one word for each of the 64 that there can be. `bind`, `lookup` and `unbind` hand the scope back.
+// The variables in scope: what each of the 64 that there can be is, if it is in scope. A scope is a value: `bind`, `unbind` and `lookup` hand it back.
 #![tactic(auto)]
 
-ghost use Rattle.std.specs.Prelude.{◌≡◌, ◌*◌, ◌≤◌, ◌<◌, length, get_or};
+ghost use Rattle.std.specs.Prelude.{◌≡◌, ◌<◌, length, get_or, Some, None};
 ghost use Rattle.meaning.specs.Formed.{VarsRead};
-ghost use Rattle.words.specs.Tables.{vars_of};
-ghost use Rattle.scope.specs.Shows.{var_of, var_as, slot_of, slot_var, Low, bound, Shows};
+ghost use Rattle.meaning.specs.Records as Records;
+ghost use Rattle.meaning.specs.Records.{type_in};
+ghost use Rattle.scope.specs.Shows.{var_of, bound, Shows};
 
-// A tree variable or a forest variable of a type, or none.
-#[derive(Drop)]
+use tables::Vars;
+
+// A tree variable or a forest variable of a type.
+#[derive(Clone, Copy, Debug, PartialEq, Eq)]
 pub enum Var {
-    Missing,
     Tree(u16),
     Forest(u16),
 }
 
+impl Var {
+    // A declared variable of a kind, 17 or 18, and a type.
+    fn of_kind(kind: u16, e: u16) -> Var
+        ensures { var_of result ≡ Records.var_of kind e }
+    {
+        match kind {
+            17 => Var::Tree(e),
+            _ => Var::Forest(e),
+        }
+    }
+
+    // Its type's entry.
+    pub fn entry(self) -> u16
+        ensures { result ≡ type_in (var_of self) }
+    {
+        match self {
+            Var::Tree(e) | Var::Forest(e) => e,
+        }
+    }
+}
+
 #[derive(Clone, Copy)]
 pub struct Scope {
-    pub slots: [u16; 64],
-}
-
-// What stands in a scope for a variable, and the scope again.
-#[derive(Drop)]
-pub struct Looked {
-    pub scope: Scope,
-    pub var: Var,
-}
-
-// The word for a variable.
-fn slot(x: Var) -> u16
-    requires { Low x }
-    ensures { result ≡ slot_of x }
-{
-    match x {
-        Var::Missing => 0,
-        Var::Tree(e) => 2 * e + 1,
-        Var::Forest(e) => 2 * e + 2,
-    }
-}
-
-// The variable of a word.
-fn var_of(w: u16) -> Var
-    ensures { var_of result ≡ slot_var w }
-{
-    if w == 0 {
-        return Var::Missing;
-    }
-    if w % 2 == 1 {
-        return Var::Tree(w / 2);
-    }
-    Var::Forest(w / 2 - 1)
+    pub slots: [Option<Var>; 64],
 }
 
 impl Scope {
-    // The scope with a variable bound.
-    pub fn bind(mut self, v: usize, x: Var) -> Scope
-        requires { (v < 64) × Low x }
-        ensures { result ≡ bound self v (slot_of x) }
+    // The scope again, and what the variable is, if it is in scope.
+    pub fn lookup(self, v: usize) -> (Scope, Option<Var>)
+        requires { v < 64 }
+        ensures same { result.0 ≡ self }
+        ensures found { result.1 ≡ get_or self.slots v None }
     {
-        let w = slot(x);
-        self.slots[v] = w;
+        (self, self.slots[v])
+    }
+
+    // The scope with the variable.
+    pub fn bind(mut self, v: usize, x: Var) -> Scope
+        requires { v < 64 }
+        ensures { result ≡ bound self v (Some x) }
+    {
+        self.slots[v] = Some(x);
         self
     }
 
-    // The scope without the variable.
+    // The scope without it.
     pub fn unbind(mut self, v: usize) -> Scope
         requires { v < 64 }
-        ensures { result ≡ bound self v 0 }
+        ensures { result ≡ bound self v None }
     {
-        self.slots[v] = 0;
+        self.slots[v] = None;
         self
     }
-
-    // What the variable is.
-    pub fn lookup(self, v: usize) -> Looked
-        requires { v < 64 }
-        ensures { (result.scope ≡ self) × (var_of result.var ≡ slot_var (get_or self.slots v 0)) }
-    {
-        let w = self.slots[v];
-        let var = var_of(w);
-        Looked { scope: self, var }
-    }
-}
-
-// A declared variable of a kind, 17 or 18, and a type.
-fn variable(kind: u16, e: u16) -> Var
-    ensures { result ≡ var_as kind e }
-{
-    if kind == 17 {
-        return Var::Tree(e);
-    }
-    Var::Forest(e)
 }
 
 // The scope of the declared variables.
-pub fn declared(vars: &[u16], count: usize) -> Scope
-    requires { (3 * count ≤ length vars.now) × VarsRead 4096 (vars_of vars.now count) }
-    ensures { (length result.slots ≡ 64) × Shows result (vars_of vars.now count) }
+pub fn declared(vars: &Vars) -> Scope
+    requires { VarsRead 4096 vars.now }
+    ensures { (length result.slots ≡ 64) × Shows result vars.now }
 {
-    let mut scope = Scope { slots: [0; 64] };
-    let mut i = count;
-    while 0 < i {
-        i -= 1;
-        let at = 3 * i;
-        let x = variable(vars[at], vars[at + 2]);
-        let v = words::wide(vars[at + 1]);
-        scope = scope.bind(v, x);
+    let count = vars.len();
+    let mut scope = Scope { slots: [None; 64] };
+    for i in (0..count).rev() {
+        let var = vars.get(i);
+        let x = Var::of_kind(var.kind, var.b);
+        scope = scope.bind(usize::from(var.a), x);
     }
     scope
 }

@@ -7,27 +7,27 @@ use Rattle.meaning.specs.Running.{Env, value_of}
 use Rattle.spans.specs.declared.Span.{Span}
 use Rattle.spans.specs.declared.Spans.{Spans}
 
--- where a variable's stretch begins and ends
+-- the stretch of no entries
+abbrev pub nowhere : Span
+nowhere = record { from = 0; to = 0 }
+
+-- a variable's stretch, where it begins and where it ends
+abbrev pub standing : Spans → ℕ → Span
+standing s v = get_or s.at v nowhere
+
 abbrev pub start : Spans → ℕ → ℕ
-start s v = get_or s.from v 0
+start s v = (standing s v).from
 
 abbrev pub stop : Spans → ℕ → ℕ
-stop s v = get_or s.to v 0
-
--- the scope of two lists, and the stretch that stands in a scope for a variable
-abbrev pub scope : List ℕ → List ℕ → Spans
-scope froms tos = record { from = froms; to = tos }
-
-abbrev pub standing : Spans → ℕ → Span
-standing s v = record { from = start s v; to = stop s v }
+stop s v = (standing s v).to
 
 -- the scope with another stretch for a variable
 abbrev pub bound : Spans → ℕ → Span → Spans
-bound s v x = record { from = set s.from v x.from; to = set s.to v x.to }
+bound s v x = record { at = set s.at v x }
 
 -- every stretch empty
 abbrev pub none : Spans
-none = record { from = replicate 64 0; to = replicate 64 0 }
+none = record { at = replicate 64 nowhere }
 
 -- the words of a table's entries from a on up to e
 unfoldable pub part : List ℕ → ℕ → ℕ → List ℕ
@@ -39,5 +39,5 @@ pub record Shows (held : List ℕ) (s : Spans) (r : Env) : Type 0 where
 
 -- each stretch lies among the first n entries
 pub record Inside (s : Spans) (n : ℕ) : Type 0 where
-  pub longs : (length s.from ≡ 64) × (length s.to ≡ 64)
+  pub long : length s.at ≡ 64
   pub is : (v : ℕ) → v < 64 → (start s v ≤ stop s v) × (stop s v ≤ n)

@@ -1,51 +1,71 @@
-// Where the forests of the variables in scope stand in the table of held forests: a first entry and an end for each of the 64 variables that there can
-// be, the same for a variable that is not in scope. A scope is a struct of two arrays; while it is worked with they are lent, so that 256 bytes need not be
-// copied for each variable. `bind` tells which stretch it hides and `unbind` puts that stretch back, so that the scope is as it was whatever stood there.
+// Where the forests of the variables in scope stand in the table of held forests: a stretch for each of the 64 variables that there can be, the empty one
+// for a variable that is not in scope. A scope is lent, since it has 256 bytes. `bind` tells which stretch it hides and `unbind` puts that stretch back, so
+// that the scope is as it was whatever stood there.
 #![tactic(auto)]
 
-ghost use Rattle.std.specs.Prelude.{◌≡◌, ◌<◌};
-ghost use Rattle.spans.specs.Shows.{scope, standing, bound};
+ghost use Rattle.std.specs.Prelude.{◌≡◌, ◌*◌, ◌≤◌, ◌<◌, length};
+ghost use Rattle.meaning.specs.Base.{forest_width};
+ghost use Rattle.spans.specs.Shows.{none, part, standing, bound};
 
 // Entries of a table from one on up to another.
-#[derive(Clone, Copy)]
+#[derive(Clone, Copy, Debug, PartialEq, Eq)]
 pub struct Span {
     pub from: u16,
     pub to: u16,
 }
 
-#[derive(Drop)]
+impl Span {
+    // Their words.
+    #[tactic(auto, unfolding(crate::specs::Shows::part))]
+    pub fn of(self, held: &[u16]) -> &[u16]
+        requires ordered { self.from ≤ self.to }
+        requires inside { forest_width * self.to ≤ length held.now }
+        ensures { result.now ≡ part held.now self.from self.to }
+    {
+        let start = 3 * usize::from(self.from);
+        let end = 3 * usize::from(self.to);
+        &held[start..end]
+    }
+}
+
+#[derive(Clone, Copy)]
 pub struct Spans {
-    pub from: [u16; 64],
-    pub to: [u16; 64],
+    pub at: [Span; 64],
 }
 
-// The variable's stretch.
-pub fn lookup(froms: &[u16; 64], tos: &[u16; 64], v: usize) -> Span
-    requires { v < 64 }
-    ensures { result ≡ standing (scope froms.now tos.now) v }
-{
-    let from = froms[v];
-    let to = tos[v];
-    Span { from, to }
-}
+impl Spans {
+    // No variable in scope.
+    pub fn new() -> Spans
+        ensures { result ≡ none }
+    {
+        let nowhere = Span { from: 0, to: 0 };
+        Spans { at: [nowhere; 64] }
+    }
 
-// Another stretch for a variable; the answer is the one that stood there.
-pub fn bind(froms: &mut [u16; 64], tos: &mut [u16; 64], v: usize, x: Span) -> Span
-    requires { v < 64 }
-    ensures fact_1 { result ≡ standing (scope froms.old tos.old) v }
-    ensures fact_2 { scope froms.new tos.new ≡ bound (scope froms.old tos.old) v x }
-{
-    let was = lookup(froms, tos, v);
-    froms[v] = x.from;
-    tos[v] = x.to;
-    was
-}
+    // The variable's stretch.
+    pub fn lookup(&self, v: usize) -> Span
+        requires { v < 64 }
+        ensures { result ≡ standing self.now v }
+    {
+        self.at[v]
+    }
 
-// The stretch that stood there before.
-pub fn unbind(froms: &mut [u16; 64], tos: &mut [u16; 64], v: usize, was: Span)
-    requires { v < 64 }
-    ensures { scope froms.new tos.new ≡ bound (scope froms.old tos.old) v was }
-{
-    froms[v] = was.from;
-    tos[v] = was.to;
+    // Another stretch for a variable; the answer is the one that stood there.
+    pub fn bind(&mut self, v: usize, x: Span) -> Span
+        requires { v < 64 }
+        ensures hidden { result ≡ standing self.old v }
+        ensures put { self.new ≡ bound self.old v x }
+    {
+        let was = self.at[v];
+        self.at[v] = x;
+        was
+    }
+
+    // The stretch that stood there before.
+    pub fn unbind(&mut self, v: usize, was: Span)
+        requires { v < 64 }
+        ensures { self.new ≡ bound self.old v was }
+    {
+        self.at[v] = was;
+    }
 }

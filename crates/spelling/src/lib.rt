@@ -5,7 +5,7 @@
 ghost use Rattle.std.specs.Prelude.{◌≡◌, [], ◌∷◌, length};
 ghost use Prim.Native.Nat.{◌+◌, ◌≤◌};
 ghost use Rattle.meaning.specs.Written.{digits, piece_bytes, is_wide, between};
-ghost use Rattle.spelling.specs.Says.{part, spelled, Spells, Spans};
+ghost use Rattle.spelling.specs.Says.{spelled, Spells};
 
 // A byte, where there is room for it.
 fn put_byte(out: &mut [u8], at: usize, byte: u8)
@@ -17,25 +17,22 @@ fn put_byte(out: &mut [u8], at: usize, byte: u8)
     out[at] = byte;
 }
 
-// Bytes from one place up to another, one behind the other; the place behind them.
-fn put_span(out: &mut [u8], at: usize, bytes: &[u8], from: usize, to: usize) -> usize
-    requires fact_1 { at ≤ 1048576 }
-    requires fact_2 { from ≤ to }
-    requires fact_3 { to ≤ length bytes.now }
-    requires fact_4 { to ≤ 64 }
-    ensures { Spells at result (part from to bytes.now) out.old out.new }
+// Bytes one behind the other; the place behind them.
+fn put_bytes(out: &mut [u8], at: usize, bytes: &[u8]) -> usize
+    requires near { at ≤ 1048576 }
+    requires few { length bytes.now ≤ 6 }
+    ensures { Spells at result bytes.now out.old out.new }
 {
     let mut next = at;
-    let mut i = from;
-    while i < to {
-        put_byte(out, next, bytes[i]);
+    for byte in bytes {
+        put_byte(out, next, *byte);
         next += 1;
-        i += 1;
     }
     next
 }
 
 // A decimal number of at most so many digits.
+// kept: the library writes numbers too, but to a slice it tells no bytes, and digits that have no room are counted here.
 fn put_digits(out: &mut [u8], at: usize, most: usize, n: u16) -> usize
     requires { (at ≤ 1048576) × (most ≤ 5) }
     ensures { Spells at result (digits most n) out.old out.new }
@@ -44,50 +41,45 @@ fn put_digits(out: &mut [u8], at: usize, most: usize, n: u16) -> usize
         return at;
     }
     if n < 10 {
-        put_byte(out, at, 48 + n as u8);
+        put_byte(out, at, b'0' + n as u8);
         return at + 1;
     }
     let next = put_digits(out, at, most - 1, n / 10);
-    put_byte(out, next, 48 + (n % 10) as u8);
+    put_byte(out, next, b'0' + (n % 10) as u8);
     next + 1
 }
 
-// Where a word or a sign stands among the letters of all.
-#[derive(Drop)]
-struct Span {
-    from: usize,
-    to: usize,
-}
-
-// By its number; what has none stands nowhere.
-fn span_of(kind: u16) -> Span
-    ensures { Spans kind result }
+// The bytes of a word or a sign by its number; what has none has no bytes.
+#[tactic(auto, unfolding(meaning::specs::Base::find, meaning::specs::Tokens::words, meaning::specs::Tokens::signs))]
+fn letters(kind: u16) -> &'static [u8]
+    ensures are { result.now ≡ spelled kind }
+    ensures few { length result.now ≤ 6 }
 {
     match kind {
-        3 => Span { from: 0, to: 3 },
-        4 => Span { from: 3, to: 5 },
-        5 => Span { from: 5, to: 11 },
-        6 => Span { from: 11, to: 14 },
-        7 => Span { from: 14, to: 18 },
-        8 => Span { from: 18, to: 22 },
-        9 => Span { from: 22, to: 27 },
-        10 => Span { from: 27, to: 32 },
-        11 => Span { from: 32, to: 35 },
-        12 => Span { from: 35, to: 37 },
-        13 => Span { from: 37, to: 41 },
-        14 => Span { from: 41, to: 45 },
-        15 => Span { from: 45, to: 46 },
-        16 => Span { from: 46, to: 47 },
-        17 => Span { from: 47, to: 48 },
-        18 => Span { from: 48, to: 49 },
-        19 => Span { from: 49, to: 50 },
-        20 => Span { from: 50, to: 51 },
-        21 => Span { from: 51, to: 52 },
-        22 => Span { from: 52, to: 53 },
-        23 => Span { from: 52, to: 54 },
-        24 => Span { from: 54, to: 56 },
-        25 => Span { from: 55, to: 56 },
-        _ => Span { from: 0, to: 0 },
+        3 => b"for",
+        4 => b"in",
+        5 => b"return",
+        6 => b"let",
+        7 => b"when",
+        8 => b"true",
+        9 => b"false",
+        10 => b"empty",
+        11 => b"not",
+        12 => b"or",
+        13 => b"node",
+        14 => b"text",
+        15 => b"(",
+        16 => b")",
+        17 => b"[",
+        18 => b"]",
+        19 => b",",
+        20 => b"#",
+        21 => b"$",
+        22 => b"/",
+        23 => b"//",
+        24 => b":=",
+        25 => b"=",
+        _ => b"",
     }
 }
 
@@ -96,9 +88,7 @@ fn put_sign(out: &mut [u8], at: usize, kind: u16) -> usize
     requires { at ≤ 1048576 }
     ensures { Spells at result (spelled kind) out.old out.new }
 {
-    let all = b"forinreturnletwhentruefalseemptynotornodetext()[],#$//:=";
-    let span = span_of(kind);
-    put_span(out, at, all, span.from, span.to)
+    put_bytes(out, at, letters(kind))
 }
 
 // One space, or none.
@@ -106,11 +96,11 @@ pub fn space(out: &mut [u8], at: usize, wide: bool) -> usize
     requires { at ≤ 1048576 }
     ensures { Spells at result (between wide) out.old out.new }
 {
-    if !wide {
-        return at;
+    if wide {
+        put_byte(out, at, b' ');
+        return at + 1;
     }
-    put_byte(out, at, 32);
-    at + 1
+    at
 }
 
 // A piece: a decimal number has a value, a word or a sign has none; the place behind it.
@@ -128,15 +118,6 @@ pub fn put(out: &mut [u8], at: usize, kind: u16, value: u16) -> usize
 pub fn is_wide(kind: u16) -> bool
     ensures { (v : Prim.Native.Nat.ℕ) → result ≡ is_wide (kind, v) }
 {
-    if kind < 3 {
-        return false;
-    }
-    let is_word = kind <= 14;
-    if is_word {
-        return true;
-    }
-    if kind == 24 {
-        return true;
-    }
-    kind == 25
+    let is_word = (3..=14).contains(&kind);
+    is_word || kind == 24 || kind == 25
 }

@@ -1,94 +1,99 @@
 // Steps of the text form's parser that read a token or two and make no node: the sign or word that must come, a number in its range, a variable, and a test.
-// Refusals 22 and 6, each at its token's first byte.
+// Refusals 22, 6 and 23, each at its token's first byte.
 #![tactic(auto)]
 
 ghost use Rattle.std.specs.Prelude.{◌≤◌, ◌<◌, length};
 ghost use Rattle.meaning.specs.Texts.{here, expect, number_in, variable_at, test_at};
-ghost use Rattle.steps.specs.Says.{Goes, Gives};
+ghost use Rattle.tokens.specs.Says.{kind_of};
+ghost use Rattle.steps.specs.Says.{Opens, Goes, Gives};
 
+use refusals::{Reason, Refusal};
 use tokens::Token;
 
-// Where the text goes on; or a refusal.
-#[derive(Drop)]
-pub enum Went {
-    To(usize),
-    Refused { number: u16, place: usize },
+// A number, and where the text goes on.
+#[derive(Clone, Copy, Debug, PartialEq, Eq)]
+pub struct Got {
+    pub value: u16,
+    pub next: usize,
 }
 
-// A number, and where the text goes on; or a refusal.
-#[derive(Drop)]
-pub enum Got {
-    Number { value: u16, next: usize },
-    Refused { number: u16, place: usize },
-}
-
-// Past the token that must come, which is not the end.
-pub fn expect(s: &[u8], at: usize, kind: u16) -> Went
-    requires fact_1 { at ≤ length s.now }
-    requires fact_2 { 0 < kind }
-    ensures { Goes s.now at result (λ n. expect s.now kind (here at n)) }
+// Past the sign, word or number that must come, which is not the end: where the text goes on. Any number will do where one must come, so kinds are compared.
+pub fn expect(s: &[u8], at: usize, wanted: Token) -> Result<usize, Refusal>
+    requires inside { at ≤ length s.now }
+    requires not_end { 0 < kind_of wanted }
+    ensures { Goes s.now at result (λ n. expect s.now (kind_of wanted) (here at n)) }
 {
     let t = tokens::token_at(s, at);
-    let place = t.place;
-    let token = t.token;
-    if tokens::kind_of(token) != kind {
-        return Went::Refused { number: 22, place };
+    let is_wanted = tokens::kind_of(t.token) == tokens::kind_of(wanted);
+    if !is_wanted {
+        return Err(Refusal {
+            reason: Reason::NoSuchText,
+            place: t.place,
+        });
     }
-    Went::To(t.next)
+    Ok(t.next)
 }
 
 // A number that must come, from one to another.
-pub fn number_in(s: &[u8], at: usize, low: u32, high: u32) -> Got
-    requires fact_1 { at ≤ length s.now }
-    requires fact_2 { low ≤ high }
-    requires fact_3 { high ≤ 65535 }
+pub fn number_in(s: &[u8], at: usize, low: u32, high: u32) -> Result<Got, Refusal>
+    requires inside { at ≤ length s.now }
+    requires order { low ≤ high }
+    requires small { high ≤ 65535 }
     ensures { Gives s.now at result (λ n. number_in s.now low high (here at n)) }
 {
     let t = tokens::token_at(s, at);
-    let place = t.place;
-    let token = t.token;
-    let Token::Number(n) = token else {
-        return Got::Refused { number: 22, place };
+    let Token::Number(n) = t.token else {
+        return Err(Refusal {
+            reason: Reason::NoSuchText,
+            place: t.place,
+        });
     };
-    if n < low {
-        return Got::Refused { number: 6, place };
+    let fits = (low..=high).contains(&n);
+    if !fits {
+        return Err(Refusal {
+            reason: Reason::Unfit,
+            place: t.place,
+        });
     }
-    if high < n {
-        return Got::Refused { number: 6, place };
-    }
-    let value = n as u16;
-    Got::Number {
-        value,
+    Ok(Got {
+        value: n as u16,
         next: t.next,
+    })
+}
+
+// Whether one more may be open where so many are: 100 at most, else 23 at the one too many.
+pub fn check_depth(deep: u16, place: usize) -> Result<(), Refusal>
+    ensures { Opens deep place result }
+{
+    let is_full = 100 <= deep;
+    if is_full {
+        return Err(Refusal {
+            reason: Reason::TooDeep,
+            place,
+        });
     }
+    Ok(())
 }
 
 // `$` and a variable number.
-pub fn variable_at(s: &[u8], at: usize) -> Got
+pub fn variable_at(s: &[u8], at: usize) -> Result<Got, Refusal>
     requires { at ≤ length s.now }
     ensures { Gives s.now at result (λ n. variable_at s.now (here at n)) }
 {
-    let went = expect(s, at, 21);
-    match went {
-        Went::To(next) => number_in(s, next, 0, 63),
-        Went::Refused { number, place } => Got::Refused { number, place },
-    }
+    let next = expect(s, at, Token::Dollar)?;
+    number_in(s, next, 0, 63)
 }
 
 // `node`, `text` or a label number, as a test word.
-pub fn test_at(s: &[u8], at: usize) -> Got
+pub fn test_at(s: &[u8], at: usize) -> Result<Got, Refusal>
     requires { at ≤ length s.now }
     ensures { Gives s.now at result (λ n. test_at s.now (here at n)) }
 {
     let t = tokens::token_at(s, at);
-    let token = t.token;
     let next = t.next;
-    let kind = tokens::kind_of(token);
-    if kind == 13 {
-        return Got::Number { value: 0, next };
+    match t.token {
+        Token::Node => Ok(Got { value: 0, next }),
+        Token::Text => Ok(Got { value: 65535, next }),
+        _ => number_in(s, at, 1, 65534),
     }
-    if kind == 14 {
-        return Got::Number { value: 65535, next };
-    }
-    number_in(s, at, 1, 65534)
 }

@@ -1,17 +1,13 @@
 -- Decimal numbers that are told apart below 65,536 alone.
 -- Assumes nothing.
-use mathlib.Core.Path.{◌≡◌, refl, sym, ap, ◌∙◌}
-use mathlib.Core.Bool.{Bool, true, false, ◌&&◌}
+use mathlib.Core.Path.{◌≡◌, sym, ap, ◌∙◌}
 use mathlib.Core.List.{List, [], ◌∷◌}
 use Prim.Native.Nat.{ℕ, ◌+◌, ◌*◌, ◌-◌, ◌≤◌, ◌<◌, min}
 use native.Mathlib.Omega.{arith}
 use native.Mathlib.Numerals.{add-one}
-use lib.Dec.{leb}
 use lib.ListN.{length, get_or, drop, drop_of_length-le}
 use lib.Seq.{drop-cons}
-use borrow.Author.Tests.{leb-true}
 use Rattle.meaning.specs.Tokens.{decimal}
-use Rattle.tokens.specs.Says.{Digits}
 
 -- a number that stands for another, from 65,536 on for any
 step_alike : (a b d : ℕ) → min a 65536 ≡ min b 65536 → min (10 * a + d) 65536 ≡ min (10 * b + d) 65536
@@ -25,17 +21,6 @@ decimal_alike (c ∷ s) a b h = decimal_alike s (10 * a + (c - 48)) (10 * b + (c
 decimal_drop : (s : List ℕ) (i n : ℕ) → i < length s → decimal n (drop i s) ≡ decimal (10 * n + (get_or s i 0 - 48)) (drop (i + 1) s)
 unfolding decimal
 decimal_drop s i n h = ap (λ (l : List ℕ). decimal n l) (drop-cons s i 0 h) ∙ ap (λ (k : ℕ). decimal (10 * n + (get_or s i 0 - 48)) (drop k s)) (sym (add-one i))
-
--- a digit is from 48 on
-pub digit_low : {s : List ℕ} {i : ℕ} → Digits s → i < length s → 48 ≤ get_or s i 0
-digit_low {s} {i} d h = first (leb 48 (get_or s i 0)) refl (d.is i h)
-  where
-    first : (b : Bool) → leb 48 (get_or s i 0) ≡ b → (b && leb (get_or s i 0) 57) ≡ true → 48 ≤ get_or s i 0
-    first true e t = leb-true 48 (get_or s i 0) e
-    first false e t = absurd (omega (arith, z))
-      where
-        z : ◌≡◌ {A = ℕ} 0 1
-        z = ap (λ (b : Bool). elim b [ true ↦ 1 | false ↦ 0 ]) t
 
 -- WHAT THE DIGITS SO FAR ARE, those before byte i
 pub record Valued (s : List ℕ) (i n : ℕ) : Type 0 where

@@ -13,7 +13,6 @@ use Rattle.meaning.specs.Tokens
 use Rattle.meaning.specs.Tokens.{is_blank, is_letter, is_digit, words, signs, run, word_among, sign_among, decimal, front, token_at}
 use Rattle.tokens.specs.declared.Token.{Token}
 use Rattle.tokens.specs.declared.Placed.{Placed}
-use Rattle.tokens.specs.declared.Sign.{Sign}
 use Rattle.tokens.specs.Says.{Digits, Shows, Draws, Tells}
 
 -- A RUN by its first byte
@@ -125,8 +124,8 @@ module _ (s : List ℕ) (at : ℕ) {place : ℕ} (e : place ≡ at + run is_blan
         tells (front_digits (sym ea ∙ af) (sym eb ∙ bt)) (record { kind = refl; value = h ∙ ap (λ (j : ℕ). min (decimal 0 (take j (drop place s))) 65536) i }) refl en
 
     -- a sign
-    pub sign_tells : {a b : Bool} → a ≡ is_letter (get_or s place 0) → a ≡ false → b ≡ is_digit (get_or s place 0) → b ≡ false → {d : ℕ} → d ≡ get_or s (place + 1) 0 → {r : Sign} → ((t : List ℕ) → d ≡ get_or t 0 0 → Draws (sign_among signs (get_or s place 0 ∷ t)) r)
-        → Tells (token_at s at) (record { token = r.token; place = place; next = place + r.bytes })
+    pub sign_tells : {a b : Bool} → a ≡ is_letter (get_or s place 0) → a ≡ false → b ≡ is_digit (get_or s place 0) → b ≡ false → {d : ℕ} → d ≡ get_or s (place + 1) 0 → {r : Token × ℕ} → ((t : List ℕ) → d ≡ get_or t 0 0 → Draws (sign_among signs (get_or s place 0 ∷ t)) r)
+        → Tells (token_at s at) (record { token = r.0; place = place; next = place + r.1 })
     sign_tells ea af eb bf {d} ed {r} h =
         let n : place + 1 ≡ suc place + 0 = omega arith in
         let z = h rest (ed ∙ ap (λ (i : ℕ). get_or s i 0) n ∙ sym (get_or-drop (suc place) s 0 0)) in

@@ -1,22 +1,13 @@
--- Runs of bytes that pass a test, and the classes of bytes.
+-- Runs of bytes that pass a test.
 -- Assumes nothing.
 use mathlib.Core.Path.{◌≡◌, refl, sym, ap, ◌∙◌}
-use mathlib.Core.Bool.{Bool, true, false, not, ◌&&◌}
+use mathlib.Core.Bool.{Bool, true, false, not}
 use mathlib.Core.List.{List, [], ◌∷◌}
 use Prim.Native.Nat.{ℕ, zero, suc, ◌+◌, ◌≤◌, ◌<◌}
 use native.Mathlib.Omega.{arith}
-use lib.Dec.{leb, eqb}
 use lib.ListN.{length, get_or, drop}
-use mathlib.Core.Logic.{◌≢◌}
-use borrow.Author.Tests.{lt-leb, le-leb, ne_eqb, not-true, not-false}
-use Rattle.meaning.specs.Tokens.{is_blank, run}
-
--- a byte among others
-pub among_not : (low high c : ℕ) → c < low → false ≡ (leb low c && leb c high)
-among_not low high c h = sym (ap (λ (b : Bool). b && leb c high) (lt-leb low c h))
-
-pub among_low : (low high c : ℕ) → low ≤ c → leb c high ≡ (leb low c && leb c high)
-among_low low high c h = sym (ap (λ (b : Bool). b && leb c high) (le-leb low c h))
+use borrow.Author.Tests.{not-true, not-false}
+use Rattle.meaning.specs.Tokens.{run}
 
 -- RUNS
 module _ (f : ℕ → Bool) where
@@ -42,10 +33,6 @@ module _ (f : ℕ → Bool) where
   run_ends (c ∷ s) zero h = absurd (omega arith)
   run_ends (c ∷ s) (suc i) h = run_ends s i (omega arith)
 
--- a byte that is no space, no tab and no line feed
-pub blank_last : (c : ℕ) → c ≢ 32 → c ≢ 9 → c ≢ 10 → eqb c 13 ≡ is_blank c
-blank_last c a b d = rw (ne_eqb c 32 a, ne_eqb c 9 b, ne_eqb c 10 d) refl
-
 -- WHERE A RUN ENDS: a loop from an offset on has come to byte i
 pub record Running (f : ℕ → Bool) (s : List ℕ) (at i : ℕ) : Type 0 where
   pub inside : i ≤ length s
@@ -60,9 +47,3 @@ module _ {f : ℕ → Bool} {s : List ℕ} {at i : ℕ} (r : Running f s at i) w
 
   pub running_ends : length s ≤ i → i ≡ at + run f (drop at s)
   running_ends h = omega (arith, r.is, run_ends f s i h)
-
--- behind the last byte
-pub none_there : (s : List ℕ) (i : ℕ) → length s ≤ i → 0 ≡ get_or s i 0
-none_there [] i h = refl
-none_there (c ∷ s) zero h = absurd (omega arith)
-none_there (c ∷ s) (suc i) h = none_there s i (omega arith)

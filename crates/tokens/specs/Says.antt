@@ -5,7 +5,6 @@ use Rattle.meaning.specs.Tokens
 use Rattle.tokens.specs.declared.Class.{Class}
 use Rattle.tokens.specs.declared.Token.{Token}
 use Rattle.tokens.specs.declared.Placed.{Placed}
-use Rattle.tokens.specs.declared.Sign.{Sign}
 
 -- the test of a class
 abbrev pub test_of : Class → ℕ → Bool
@@ -81,9 +80,9 @@ pub record Shows (x : Tokens.Token) (t : Token) : Type 0 where
   pub value : value_of t ≡ min x.value 65536
 
 -- a sign with how many bytes it has
-pub record Draws (x : Tokens.Token) (r : Sign) : Type 0 where
-  pub token : Shows x r.token
-  pub bytes : r.bytes ≡ x.bytes
+pub record Draws (x : Tokens.Token) (r : Token × ℕ) : Type 0 where
+  pub token : Shows x r.0
+  pub bytes : r.1 ≡ x.bytes
 
 -- and with its place
 pub record Tells (x : Tokens.Placed) (r : Placed) : Type 0 where

@@ -1,95 +1,95 @@
 -- Conditions told of the stretches that a scope has: those of variables, and those that join others.
 -- Assumes nothing.
-use mathlib.Core.Path.{◌≡◌, refl, sym, ap, ◌∙◌}
+use mathlib.Core.Path.{◌≡◌, refl, sym, ap, subst, ◌∙◌}
 use mathlib.Core.Bool.{Bool, true, false, not, ◌||◌}
 use mathlib.Core.List.{List}
-use Prim.Native.Nat.{ℕ, ◌+◌, ◌*◌, ◌-◌, ◌≤◌, ◌<◌}
+use Prim.Native.Nat.{ℕ, ◌*◌, ◌-◌, ◌≤◌, ◌<◌}
 use native.Mathlib.Omega.{arith}
 use native.Mathlib.Decide.{ℕ_discrete}
 use lib.Dec.{eqb}
-use lib.ListN.{length, get_or}
+use lib.ListN.{length}
 use borrow.Author.Tests.{eq-eqb, ne_eqb}
-use Rattle.meaning.specs.Base.{code_width}
 use Rattle.meaning.specs.Forests.{size, forest_words, same_words}
+use Rattle.meaning.specs.Records.{Node, node_at}
 use Rattle.meaning.specs.Queries as Queries
+use Rattle.meaning.specs.Queries.{cond_at}
 use Rattle.meaning.specs.Running.{Env, value_of, holds}
 use Rattle.meaning.proofs.Forests.{length_words}
-use Rattle.words.specs.Tables.{node_in}
-use Rattle.uses.specs.Counts.{Coded}
+use Rattle.uses.specs.Counts.{Lowers}
 use Rattle.conds.specs.Says.{cond_of, Says}
 use Rattle.conds.specs.declared.Cond.{Cond}
-use Rattle.conds.proofs.Going.{here, cond_is}
-use Rattle.spans.specs.Shows.{part, Shows}
+use Rattle.conds.proofs.Going.{cond_is}
+use Rattle.spans.specs.declared.Span.{Span}
+use Rattle.spans.specs.declared.Spans.{Spans}
+use Rattle.spans.specs.Shows.{standing, start, stop, part, Shows}
 use Rattle.spans.proofs.Parts.{part_length}
 use Rattle.truths.specs.Tells.{Places, Tells}
 
-module _ {from to held : List ℕ} (h : Places from to held) where
+module _ {s : Spans} {held : List ℕ} (h : Places s held) where
   -- A VARIABLE, under the name that the code has for it
   module _ {v i : ℕ} (low : v ≤ 63) (p : i ≡ v) where
-    pub placed : (get_or from i 0 ≤ get_or to i 0) × (3 * get_or to i 0 ≤ length held)
+    pub placed : (start s i ≤ stop s i) × (3 * stop s i ≤ length held)
     placed = h.is i (omega arith)
 
-    pub shown : {env : Env} → Shows held (record { from = from; to = to }) env → part held (get_or from i 0) (get_or to i 0) ≡ forest_words (value_of env v)
-    shown {env} s = s.is i (omega arith) ∙ ap (λ (j : ℕ). forest_words (value_of env j)) p
+    pub shown : {env : Env} → Shows held s env → part held (start s i) (stop s i) ≡ forest_words (value_of env v)
+    shown {env} z = z.is i (omega arith) ∙ ap (λ (j : ℕ). forest_words (value_of env j)) p
 
-    pub tells_empty : Tells from to held (eqb (get_or from i 0) (get_or to i 0)) (Queries.empty 0 v)
+    pub tells_empty : {x : Span} → x ≡ standing s i → Tells s held (eqb x.from x.to) (Queries.empty 0 v)
     unfolding holds
-    tells_empty = record { is = λ env s. go env s (ℕ_discrete (get_or from i 0) (get_or to i 0)) }
+    tells_empty q = subst (λ (y : Span). Tells s held (eqb y.from y.to) (Queries.empty 0 v)) (sym q) (record { is = λ env z. go env z (ℕ_discrete (start s i) (stop s i)) })
       where
-        sized : (env : Env) → Shows held (record { from = from; to = to }) env → 3 * size (value_of env v) ≡ 3 * get_or to i 0 - 3 * get_or from i 0
-        sized env s = sym (length_words (value_of env v)) ∙ sym (ap length (shown s)) ∙ part_length held (get_or from i 0) (get_or to i 0) placed.1
+        sized : (env : Env) → Shows held s env → 3 * size (value_of env v) ≡ 3 * stop s i - 3 * start s i
+        sized env z = sym (length_words (value_of env v)) ∙ sym (ap length (shown z)) ∙ part_length held (start s i) (stop s i) placed.1
 
-        go : (env : Env) → Shows held (record { from = from; to = to }) env → Dec (get_or from i 0 ≡ get_or to i 0) → eqb (get_or from i 0) (get_or to i 0) ≡ eqb (size (value_of env v)) 0
-        go env s (yes e) = eq-eqb _ _ e ∙ sym (eq-eqb (size (value_of env v)) 0 (omega (arith, sized env s)))
-        go env s (no e) = ne_eqb _ _ e ∙ sym (ne_eqb (size (value_of env v)) 0 (λ z. e (omega (arith, sized env s, placed.0))))
+        go : (env : Env) → Shows held s env → Dec (start s i ≡ stop s i) → eqb (start s i) (stop s i) ≡ eqb (size (value_of env v)) 0
+        go env z (yes e) = eq-eqb _ _ e ∙ sym (eq-eqb (size (value_of env v)) 0 (omega (arith, sized env z)))
+        go env z (no e) = ne_eqb _ _ e ∙ sym (ne_eqb (size (value_of env v)) 0 (λ d. e (omega (arith, sized env z, placed.0))))
+
+    -- its words, in every environment that the scope shows
+    words_are : {x : Span} {ws : List ℕ} → x ≡ standing s i → ws ≡ part held x.from x.to → (env : Env) → Shows held s env → ws ≡ forest_words (value_of env v)
+    words_are q l env z = l ∙ ap (λ (y : Span). part held y.from y.to) q ∙ shown z
 
   -- TWO
-  pub tells_equal : {v w i j a b c d : ℕ} {r : Bool} → v ≤ 63 → i ≡ v → a ≡ get_or from i 0 → b ≡ get_or to i 0 → w ≤ 63 → j ≡ w → c ≡ get_or from j 0 → d ≡ get_or to j 0 → r ≡ same_words (part held a b) (part held c d) → Tells from to held r (Queries.equal 0 v w)
+  pub tells_equal : {v w i j : ℕ} {x y : Span} {ws us : List ℕ} {r : Bool} → v ≤ 63 → i ≡ v → x ≡ standing s i → ws ≡ part held x.from x.to → w ≤ 63 → j ≡ w → y ≡ standing s j → us ≡ part held y.from y.to → r ≡ same_words ws us → Tells s held r (Queries.equal 0 v w)
   unfolding holds
-  tells_equal {v} {w} {i} {j} {a} {b} {c} {d} x p f g y q k l e =
-      record { is = λ env s. e ∙ ap (λ (z : List ℕ). same_words z (part held c d)) (at f g ∙ shown x p s) ∙ ap (λ (z : List ℕ). same_words (forest_words (value_of env v)) z) (at k l ∙ shown y q s) }
-    where
-      at : {n m o u : ℕ} → n ≡ o → m ≡ u → part held n m ≡ part held o u
-      at {n} {m} {o} {u} p q = ap (λ (z : ℕ). part held z m) p ∙ ap (λ (z : ℕ). part held o z) q
+  tells_equal {v} {ws = ws} {us} lv p x a lw q y b e =
+      record { is = λ env z. e ∙ ap (λ (l : List ℕ). same_words l us) (words_are lv p x a env z) ∙ ap (λ (l : List ℕ). same_words (forest_words (value_of env v)) l) (words_are lw q y b env z) }
 
 -- A NODE by what it says
-pub node_inside : {code : List ℕ} {nodes n : ℕ} → Coded code nodes → n < nodes → code_width * n + code_width ≤ length code
-node_inside coded low = omega (arith, coded.inside)
+module _ {C : List Node} (lowers : Lowers C) {n : ℕ} (low : n < length C) {c : Cond} (says : Says n (node_at C n) c) {s : Spans} {held : List ℕ} where
+  told : (d : Cond) → c ≡ d → {r : Bool} → ((env : Env) → Shows held s env → r ≡ holds (cond_of n (cond_at C) d) env) → Tells s held r (cond_at C n)
+  told d e h = record { is = λ env z. h env z ∙ sym (ap (λ (x : Queries.Cond). holds x env) (cond_is C lowers low says ∙ ap (cond_of n (cond_at C)) e)) }
 
-module _ {code : List ℕ} {nodes : ℕ} (coded : Coded code nodes) {n : ℕ} (low : n < nodes) {c : Cond} (says : Says n (node_in code n) c) {from to held : List ℕ} where
-  told : (d : Cond) → c ≡ d → {r : Bool} → ((env : Env) → Shows held (record { from = from; to = to }) env → r ≡ holds (cond_of n (here code nodes) d) env) → Tells from to held r (here code nodes n)
-  told d e h = record { is = λ env s. h env s ∙ sym (ap (λ (x : Queries.Cond). holds x env) (cond_is code nodes coded low says ∙ ap (cond_of n (here code nodes)) e)) }
-
-  pub told_true : c ≡ Cond.True → Tells from to held true (here code nodes n)
+  pub told_true : c ≡ Cond.True → Tells s held true (cond_at C n)
   unfolding holds
-  told_true e = told Cond.True e (λ env s. refl)
+  told_true e = told Cond.True e (λ env z. refl)
 
-  pub told_false : c ≡ Cond.False → Tells from to held false (here code nodes n)
+  pub told_false : c ≡ Cond.False → Tells s held false (cond_at C n)
   unfolding holds
-  told_false e = told Cond.False e (λ env s. refl)
+  told_false e = told Cond.False e (λ env z. refl)
 
-  pub told_equal : {v w : ℕ} {r : Bool} → c ≡ Cond.Equal v w → Tells from to held r (Queries.equal 0 v w) → Tells from to held r (here code nodes n)
+  pub told_equal : {v w : ℕ} {r : Bool} → c ≡ Cond.Equal v w → Tells s held r (Queries.equal 0 v w) → Tells s held r (cond_at C n)
   unfolding holds
   told_equal {v} {w} e h = told (Cond.Equal v w) e h.is
 
-  pub told_empty : {v : ℕ} {r : Bool} → c ≡ Cond.Empty v → Tells from to held r (Queries.empty 0 v) → Tells from to held r (here code nodes n)
+  pub told_empty : {v : ℕ} {r : Bool} → c ≡ Cond.Empty v → Tells s held r (Queries.empty 0 v) → Tells s held r (cond_at C n)
   unfolding holds
   told_empty {v} e h = told (Cond.Empty v) e h.is
 
   -- one that names others, under the names that the code has for them
-  module _ {p i : ℕ} (at : i ≡ p) {r : Bool} (h : Tells from to held r (here code nodes i)) where
-    part_is : (env : Env) → Shows held (record { from = from; to = to }) env → r ≡ holds (here code nodes p) env
-    part_is env s = h.is env s ∙ ap (λ (j : ℕ). holds (here code nodes j) env) at
+  module _ {p i : ℕ} (at : i ≡ p) {r : Bool} (h : Tells s held r (cond_at C i)) where
+    part_is : (env : Env) → Shows held s env → r ≡ holds (cond_at C p) env
+    part_is env z = h.is env z ∙ ap (λ (j : ℕ). holds (cond_at C j) env) at
 
-    pub told_not : c ≡ Cond.Not p → Tells from to held (not r) (here code nodes n)
+    pub told_not : c ≡ Cond.Not p → Tells s held (not r) (cond_at C n)
     unfolding holds
-    told_not e = told (Cond.Not p) e (λ env s. ap not (part_is env s))
+    told_not e = told (Cond.Not p) e (λ env z. ap not (part_is env z))
 
-    pub told_left : {q : ℕ} → c ≡ Cond.Or p q → r ≡ true → Tells from to held true (here code nodes n)
+    pub told_left : {q : ℕ} → c ≡ Cond.Or p q → r ≡ true → Tells s held r (cond_at C n)
     unfolding holds
-    told_left {q} e y = told (Cond.Or p q) e (λ env s. ap (λ (b : Bool). b || holds (here code nodes q) env) (sym y ∙ part_is env s))
+    told_left {q} e y = told (Cond.Or p q) e (λ env z. y ∙ ap (λ (b : Bool). b || holds (cond_at C q) env) (sym y ∙ part_is env z))
 
-    pub told_right : {q j : ℕ} {d : Bool} → c ≡ Cond.Or p q → r ≡ false → j ≡ q → Tells from to held d (here code nodes j) → Tells from to held d (here code nodes n)
+    pub told_right : {q j : ℕ} {d : Bool} → c ≡ Cond.Or p q → r ≡ false → j ≡ q → Tells s held d (cond_at C j) → Tells s held d (cond_at C n)
     unfolding holds
     told_right {q} {j} e y k g =
-        told (Cond.Or p q) e (λ env s. g.is env s ∙ ap (λ (x : ℕ). holds (here code nodes x) env) k ∙ ap (λ (b : Bool). b || holds (here code nodes q) env) (sym y ∙ part_is env s))
+        told (Cond.Or p q) e (λ env z. g.is env z ∙ ap (λ (x : ℕ). holds (cond_at C x) env) k ∙ ap (λ (b : Bool). b || holds (cond_at C q) env) (sym y ∙ part_is env z))

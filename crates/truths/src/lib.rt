@@ -1,89 +1,63 @@
-// Conditions, evaluated: whether two forests are the same entry for entry, whether one is empty, and the conditions that join others. A scope is lent as
-// where its stretches begin and where they end.
+// Conditions, evaluated: whether two forests are the same entry for entry, whether one is empty, and the conditions that join others.
 #![tactic(auto)]
 
-ghost use Rattle.std.specs.Prelude.{◌≡◌, ◌*◌, ◌≤◌, ◌<◌};
+ghost use Rattle.std.specs.Prelude.{◌≡◌, List, ℕ, ◌≤◌, ◌<◌, length};
 ghost use Rattle.meaning.specs.Forests.{same_words};
 ghost use Rattle.meaning.specs.Queries as Queries;
 ghost use Rattle.meaning.specs.Queries.{cond_at};
-ghost use Rattle.words.specs.Tables.{code_of};
-ghost use Rattle.uses.specs.Counts.{Coded};
+ghost use Rattle.uses.specs.Counts.{Lowers};
 ghost use Rattle.truths.specs.Tells.{Places, Tells};
 
 use conds::Cond;
+use spans::Spans;
+use tables::Nodes;
 
 // Whether two stretches have the same words.
+#[tactic(auto, using(crate::proofs::Alike::same_pointwise))]
 fn same(a: &[u16], b: &[u16]) -> bool
     ensures { result ≡ same_words a.now b.now }
 {
-    if a.len() != b.len() {
-        return false;
-    }
-    let mut i = 0;
-    while i < a.len() {
-        if a[i] != b[i] {
-            return false;
-        }
-        i += 1;
-    }
-    true
+    a == b
 }
 
 // Whether two variables have the same forest.
-fn equal(from: &[u16; 64], to: &[u16; 64], held: &[u16], v: u16, w: u16) -> bool
-    requires fact_1 { Places from.now to.now held.now }
-    requires fact_2 { v ≤ 63 }
-    requires fact_3 { w ≤ 63 }
-    ensures { Tells from.now to.now held.now result (Queries.equal 0 v w) }
+fn equal(scope: &Spans, held: &[u16], v: u16, w: u16) -> bool
+    requires places { Places scope.now held.now }
+    requires left { v ≤ 63 }
+    requires right { w ≤ 63 }
+    ensures { Tells scope.now held.now result (Queries.equal 0 v w) }
 {
-    let i = words::wide(v);
-    let j = words::wide(w);
-    let a = 3 * words::wide(from[i]);
-    let b = 3 * words::wide(to[i]);
-    let c = 3 * words::wide(from[j]);
-    let d = 3 * words::wide(to[j]);
-    same(&held[a..b], &held[c..d])
+    let left = scope.lookup(usize::from(v));
+    let right = scope.lookup(usize::from(w));
+    same(left.of(held), right.of(held))
 }
 
 // Whether a variable has no tree.
-fn empty(from: &[u16; 64], to: &[u16; 64], held: &[u16], v: u16) -> bool
-    requires fact_1 { Places from.now to.now held.now }
-    requires fact_2 { v ≤ 63 }
-    ensures { Tells from.now to.now held.now result (Queries.empty 0 v) }
+fn empty(scope: &Spans, v: u16) -> bool
+    requires { v ≤ 63 }
+    ensures { (held : List ℕ) → Places scope.now held → Tells scope.now held result (Queries.empty 0 v) }
 {
-    let i = words::wide(v);
-    from[i] == to[i]
+    let trees = scope.lookup(usize::from(v));
+    trees.from == trees.to
 }
 
 // Whether the condition at node n holds.
-pub fn truth(
-    code: &[u16],
-    nodes: usize,
-    n: usize,
-    from: &[u16; 64],
-    to: &[u16; 64],
-    held: &[u16],
-) -> bool
-    requires { (Coded code.now nodes) × ((n < nodes) × (Places from.now to.now held.now)) }
-    ensures { Tells from.now to.now held.now result (cond_at (code_of code.now nodes) n) }
+pub fn truth(code: &Nodes, n: usize, scope: &Spans, held: &[u16]) -> bool
+    requires lowers { Lowers code.now }
+    requires inside { n < length code.now }
+    requires places { Places scope.now held.now }
+    ensures { Tells scope.now held.now result (cond_at code.now n) }
 {
-    let cond = conds::read_cond(code, n);
-    match cond {
+    match conds::read_cond(code, n) {
         Cond::True => true,
         Cond::False => false,
-        Cond::Equal(v, w) => equal(from, to, held, v, w),
-        Cond::Empty(v) => empty(from, to, held, v),
+        Cond::Equal(v, w) => equal(scope, held, v, w),
+        Cond::Empty(v) => empty(scope, v),
         Cond::Or(p, q) => {
-            let left = words::wide(p);
-            let right = words::wide(q);
-            if truth(code, nodes, left, from, to, held) {
-                return true;
-            }
-            truth(code, nodes, right, from, to, held)
+            let left = usize::from(p);
+            let right = usize::from(q);
+            truth(code, left, scope, held) || truth(code, right, scope, held)
         }
-        Cond::Not(p) => {
-            let part = words::wide(p);
-            !truth(code, nodes, part, from, to, held)
-        }
+        Cond::Not(p) => !truth(code, usize::from(p), scope, held),
     }
 }

@@ -1,24 +1,27 @@
 -- The walk with its stack: what is left to do, at the node or with the answer that it has come to, is the whole.
 -- Assumes nothing.
+use Rattle.std.specs.Prelude as Std
+use Rattle.std.specs.Prelude.{Result}
 use mathlib.Core.Path.{◌≡◌, refl, sym, ap, subst, ◌∙◌}
 use mathlib.Core.Logic.{◌≢◌}
 use mathlib.Core.List.{List, [], ◌∷◌, ◌++◌}
 use mathlib.Core.Option.{Option, none, some}
 use Prim.Native.Nat.{ℕ, zero, suc, ◌+◌, ◌*◌, ◌-◌, ◌≤◌, ◌<◌}
 use native.Mathlib.Omega.{arith}
-use lib.ListN.{length, get_or, set, take}
+use lib.ListN.{length, get_or, set}
 use Rattle.meaning.specs.Base.{Out, ok, refused, type_capacity}
 use Rattle.meaning.specs.Types.{Table, Defs}
 use Rattle.meaning.specs.Records as Records
 use Rattle.meaning.specs.Records.{Node}
-use Rattle.meaning.specs.Queries.{Query, query_at}
+use Rattle.meaning.specs.Queries.{query_at}
 use Rattle.meaning.specs.Typing as Typing
 use Rattle.meaning.proofs.Codes.{query_labels}
 use Rattle.meaning.proofs.Nodes.{InQuery, everywhere}
 use Rattle.meaning.proofs.Labels.{Labels}
-use Rattle.words.specs.Tables.{table_of, code_of}
-use Rattle.words.proofs.Tables.{code_length}
-use Rattle.uses.specs.Counts.{Coded}
+use Rattle.refusals.specs.declared.Refusal.{Refusal}
+use Rattle.refusals.specs.Says.{number_of}
+use Rattle.words.specs.Tables.{table_of}
+use Rattle.uses.specs.Counts.{Lowers}
 use Rattle.scope.specs.declared.Scope.{Scope}
 use Rattle.scope.specs.Shows.{Shows}
 use Rattle.grow.specs.Grow.{Left, answer_of, After}
@@ -27,25 +30,17 @@ use Rattle.conds.proofs.Told.{shown, shows_shown}
 use Rattle.leaves.specs.Walk.{Within, Begins, walked}
 use Rattle.joins.proofs.Growing.{walk_count, within_more}
 use Rattle.typing.specs.declared.Next.{Next}
-use Rattle.typing.specs.declared.Step.{Step}
-use Rattle.typing.specs.declared.Ask.{Ask}
-use Rattle.typing.specs.declared.Entering.{Entering}
-use Rattle.typing.specs.declared.Bind.{Bind}
-use Rattle.typing.specs.declared.Leaving.{Leaving}
 use Rattle.typing.specs.Walking as Walking
-use Rattle.typing.specs.Walking.{onward, binder, named, inside, outside, Kept, Freed, size, cost, rose, variable_of, body_of, binding, Here, Framed, Goes, Enters, Turns, Leaves, Typed}
-use Rattle.typing.proofs.Onward.{size_some, enters_plain, enters_still}
+use Rattle.typing.specs.Walking.{onward, binder, named, inside, outside, Freed, size, cost, rose, Here, Framed, Goes, Turns, Typed}
+use Rattle.typing.proofs.Onward.{size_some}
 use Rattle.typing.proofs.Turning.{one_less, within_unbind}
-use Rattle.typing.proofs.Returning.{leaves_plain, leaves_binds, binds_turns}
 use Rattle.typing.proofs.Stack.{Frame, named_none, outside_inside, scope_of, names_of, resume, resume_refused, work, work_some, Stack, bottom, Top, top_of, stack_shows, stack_more, begun_work, begun_stack, kept_work, kept_stack, scope_wide}
 
 -- A WALK: the definitions, the query's nodes, the types and classes that it began with, of so many entries, the scope, the node to do, and how many words
 -- its marks and its stack have
 pub record Walk : Type 0 where
-  pub defs : List ℕ
-  pub used : ℕ
-  pub code : List ℕ
-  pub nodes : ℕ
+  pub defs : Defs
+  pub code : List Node
   pub types : List ℕ
   pub classes : List ℕ
   pub count : ℕ
@@ -56,10 +51,10 @@ pub record Walk : Type 0 where
 
 module _ (walk : Walk) where
   abbrev D : Defs
-  D = take walk.used walk.defs
+  D = walk.defs
 
   abbrev code : List Node
-  code = code_of walk.code walk.nodes
+  code = walk.code
 
   abbrev room : ℕ
   room = type_capacity (length walk.types)
@@ -81,19 +76,19 @@ module _ (walk : Walk) where
 
   -- a stack of so many frames, over a table of n entries, and the scope that it makes
   pub record Stacked (st : List ℕ) (n top : ℕ) (s : Scope) (fs : List Frame) : Type 0 where
-    pub stack : Stack code walk.scope walk.nodes st n top fs
+    pub stack : Stack code walk.scope (length walk.code) st n top fs
     pub scoped : s ≡ scope_of code walk.scope fs
 
   -- DOWN at a node
   pub record Descends (us ds ms st : List ℕ) (s : Scope) (node n top : ℕ) : Type 0 where
     pub held : Held us ds ms st
     pub begins : Begins D us ds n s
-    pub low : top + node < walk.nodes
+    pub low : top + node < length walk.code
     pub frames : List Frame
     pub stacked : Stacked st n top s frames
     pub rest : (g : Typing.Scope) → Shows walk.scope g → onwards frames g (walked room D (query_at code node) (names_of code walk.scope frames g) (table_of us n)) ≡ whole g
 
-  -- UP with an entry, or with a refusal
+  -- UP with what a node made; or the end, with a refusal
   pub record Ascends (us ds ms st : List ℕ) (s : Scope) (e n top : ℕ) : Type 0 where
     pub held : Held us ds ms st
     pub begins : Begins D us ds n s
@@ -108,8 +103,7 @@ module _ (walk : Walk) where
 
   abbrev pub Stands : List ℕ → List ℕ → List ℕ → List ℕ → Scope → Next → Type 0
   Stands us ds ms st s (Next.Down node n top) = Descends us ds ms st s node n top
-  Stands us ds ms st s (Next.Up e n top) = Ascends us ds ms st s e n top
-  Stands us ds ms st s (Next.Stop k place) = Stops us ds ms st k place
+  Stands us ds ms st s (Next.Up m top) = Ascends us ds ms st s m.at m.count top
 
   -- THE LOOP
   pub record Going (us ds ms st : List ℕ) (s : Scope) (next : Next) : Type 0 where
@@ -118,20 +112,18 @@ module _ (walk : Walk) where
   -- how much there is left to do
   abbrev pub left : List ℕ → Next → ℕ
   left st (Next.Down node n top) = 3 * size (query_at code node) + work code walk.scope st top
-  left st (Next.Up e n top) = work code walk.scope st top
-  left st (Next.Stop k place) = 0
+  left st (Next.Up m top) = work code walk.scope st top
 
-  left_rose : (st : List ℕ) (o : Made) (top : ℕ) → left st (rose o top) ≤ work code walk.scope st top
-  left_rose st (Made.Entry e n) top = omega arith
-  left_rose st (Made.Refused k place) top = omega arith
+  -- what a step makes, before which there was so much to do
+  abbrev pub Outcome : List ℕ → List ℕ → List ℕ → List ℕ → Scope → ℕ → Result Next Refusal → Type 0
+  Outcome us ds ms st s before (Std.Ok next) = Stands us ds ms st s next × (left st next < before)
+  Outcome us ds ms st s before (Std.Err r) = Stops us ds ms st (number_of r.reason) r.place
 
-  -- what a step makes
-  pub record Stepped (us ds ms st : List ℕ) (r : Step) (before : ℕ) : Type 0 where
-    pub is : Stands us ds ms st r.scope r.next
-    pub less : left st r.next < before
+  pub record Stepped (us ds ms st : List ℕ) (s : Scope) (r : Result Next Refusal) (before : ℕ) : Type 0 where
+    pub is : Outcome us ds ms st s before r
 
-  module _ (coded : Coded walk.code walk.nodes) (wide : length walk.scope.slots ≡ 64) where
-    pub going_start : (ms st : List ℕ) → Begins D walk.types walk.classes walk.count walk.scope → walk.start < walk.nodes → length ms ≡ walk.marked → length st ≡ walk.deep
+  module _ (lowers : Lowers walk.code) (wide : length walk.scope.slots ≡ 64) where
+    pub going_start : (ms st : List ℕ) → Begins D walk.types walk.classes walk.count walk.scope → walk.start < length walk.code → length ms ≡ walk.marked → length st ≡ walk.deep
         → Going walk.types walk.classes ms st walk.scope (Next.Down walk.start walk.count 0)
     unfolding resume names_of scope_of
     going_start ms st B l m q =
@@ -153,23 +145,24 @@ module _ (walk : Walk) where
 
     -- UP with whatever was made, where the frames leave the whole to do
     module _ {us ds ms st : List ℕ} {s : Scope} {top n : ℕ} {fs : List Frame} (held : Held us ds ms st) (k : Stacked st n top s fs) where
-      rising : (o : Made) → After D us ds o → ((e m : ℕ) → o ≡ Made.Entry e m → (n ≤ m) × Within s m) → ((g : Typing.Scope) → Shows walk.scope g → onwards fs g (answer_of o us) ≡ whole g) → Stands us ds ms st s (rose o top)
-      rising (Made.Entry e m) a more rest =
-          let z = more e m refl in
-          record { held = held; begins = record { ready = a.0; within = z.1 }; low = a.1; frames = fs; stacked = record { stack = stack_more code walk.scope z.0 k.stack; scoped = k.scoped }; rest = rest }
-      rising (Made.Refused i place) a more rest =
-          record { held = held; rest = λ g h. sym (resume_refused code walk.scope room D fs g i place) ∙ rest g h }
+      rising : {before : ℕ} → work code walk.scope st top < before → (o : Result Made Refusal) → After D us ds o → ((m : Made) → o ≡ Std.Ok m → (n ≤ m.count) × Within s m.count)
+          → ((g : Typing.Scope) → Shows walk.scope g → onwards fs g (answer_of o us) ≡ whole g) → Outcome us ds ms st s before (rose o top)
+      rising less (Std.Ok m) a more rest =
+          let z = more m refl in
+          (record { held = held; begins = record { ready = a.0; within = z.1 }; low = a.1; frames = fs; stacked = record { stack = stack_more code walk.scope z.0 k.stack; scoped = k.scoped }; rest = rest }, less)
+      rising less (Std.Err r) a more rest =
+          record { held = held; rest = λ g h. sym (resume_refused code walk.scope room D fs g (number_of r.reason) r.place) ∙ rest g h }
 
     -- A STEP DOWN
     module _ {us ds ms st : List ℕ} {s : Scope} {node n top : ℕ} (d : Descends us ds ms st s node n top) where
-      pub down_here : 8192 ≤ walk.marked → walk.used ≤ length walk.defs → Here us ds ms walk.defs walk.used walk.code walk.nodes n node s
-      down_here m l = record { begins = d.begins; marked = omega (arith, d.held.marked); listed = l; coded = coded; low = omega (arith, d.low) }
+      pub down_here : 8192 ≤ walk.marked → Here us ds ms walk.defs walk.code n node s
+      down_here m = record { begins = d.begins; marked = omega (arith, d.held.marked); lowers = lowers; low = omega (arith, d.low) }
 
       pub down_room : 2048 ≤ walk.deep → 2 * top + 1 < length st
-      down_room l = omega (arith, d.held.deep, d.low, coded.few)
+      down_room l = omega (arith, d.held.deep, d.low, lowers.few)
 
       labels : Labels (query_at code node)
-      labels = query_labels code coded.low node (omega (arith, code_length walk.code walk.nodes, d.low))
+      labels = query_labels code lowers.low node (omega (arith, d.low))
 
       parts : InQuery (λ _. Unit {0}) (query_at code node)
       parts = everywhere (λ _. Unit {0}) (λ _. tt) (query_at code node)
@@ -191,56 +184,45 @@ module _ (walk : Walk) where
           ∙ ap (onwards d.frames g) (sym (law room here (table_of us n) (shows g d.stacked h)))
           ∙ d.rest g h
 
-      pub down_steps : {vs es ns tt' : List ℕ} {r : Step} → 2048 ≤ walk.deep → length ns ≡ length ms → length tt' ≡ length st → Goes D code us vs ds es n s node st tt' top r → Stepped vs es ns tt' r (left st (Next.Down node n top))
+      pub down_steps : {vs es ns tt' : List ℕ} {r : Result Next Refusal} → 2048 ≤ walk.deep → length ns ≡ length ms → length tt' ≡ length st → Goes D code us vs ds es n s node st tt' top r → Stepped vs es ns tt' s r (left st (Next.Down node n top))
       down_steps {vs} {es} {ns} l p q (Walking.done w k e j) =
           let first = k.is (shown s) (shows_shown s) in
           let held : Held vs es ns st = record { long = first.long ∙ d.held.long; longs = first.longs ∙ d.held.longs; marked = p ∙ d.held.marked; deep = d.held.deep } in
-          rw (j, e, k.kept) (record {
-            is = rising held d.stacked w.made first.ready (λ a m y. let z = walk_count d.begins (query_at code node) labels parts y k in (z, within_more z d.begins.within)) (λ g h.
+          rw (j, e) (record {
+            is = rising held d.stacked (omega (arith, size_some (query_at code node))) w first.ready (λ m y. let z = walk_count d.begins (query_at code node) labels parts y k in (z, within_more z d.begins.within)) (λ g h.
                 ap (onwards d.frames g) (k.is (names_of code walk.scope d.frames g) (shows g d.stacked h)).answer
                 ∙ ap (λ (a : ℕ). onwards d.frames g (walked (type_capacity a) D (query_at code node) (names_of code walk.scope d.frames g) (table_of us n))) d.held.long
                 ∙ d.rest g h);
-            less = omega (arith, size_some (query_at code node), left_rose st w.made top);
           })
       down_steps {ns = ns} l p q (Walking.first c z a b e j less law) =
           rw (j, a, b, e) (record {
-            is =
-                record {
-                  held = record { long = d.held.long; longs = d.held.longs; marked = p ∙ d.held.marked; deep = sym (ap length e) ∙ q ∙ d.held.deep };
-                  begins = d.begins;
-                  low = omega (arith, d.low);
-                  frames = begins_frame;
-                  stacked = record { stack = begun_stack code walk.scope st top node (down_room l) (Records.tree 0) d.low d.stacked.stack; scoped = first_scoped };
-                  rest = first_rest c law;
-                };
-            less = omega (arith, begun_work code walk.scope st top node (down_room l));
+            is = (
+              record {
+                held = record { long = d.held.long; longs = d.held.longs; marked = p ∙ d.held.marked; deep = sym (ap length e) ∙ q ∙ d.held.deep };
+                begins = d.begins;
+                low = omega (arith, d.low);
+                frames = begins_frame;
+                stacked = record { stack = begun_stack code walk.scope st top node (down_room l) (Records.tree 0) d.low d.stacked.stack; scoped = first_scoped };
+                rest = first_rest c law;
+              },
+              omega (arith, begun_work code walk.scope st top node (down_room l)),
+            );
           })
 
-      -- the same whatever the scope; and one that asks
-      module _ {tt' : List ℕ} {r : Entering} (l : 2048 ≤ walk.deep) (e : Enters walk.code walk.nodes n node st tt' top r) where
-        pub plain_down : {to : Next} → r ≡ Entering.Plain to → length tt' ≡ length st → Stepped us ds ms tt' (record { next = to; scope = s }) (left st (Next.Down node n top))
-        plain_down p q = down_steps {ns = ms} l refl q (enters_plain e p D us ds s d.begins)
-
-        pub asks_room : {a : Ask} → r ≡ Entering.Asks a → 2 * top + 1 < length tt'
-        asks_room p = omega (arith, ap length (enters_still e p), down_room l)
-
-        pub asks_down : {a : Ask} {vs es ns uu : List ℕ} {x : Step} → r ≡ Entering.Asks a → length ns ≡ length ms → length uu ≡ length tt' → Goes D code us vs ds es n s node tt' uu top x → Stepped vs es ns uu x (left st (Next.Down node n top))
-        asks_down {vs = vs} {es} {ns} {uu} {x} p q z g = let y = enters_still e p in down_steps {ns = ns} l q (z ∙ ap length y) (subst (λ (t : List ℕ). Goes D code us vs ds es n s node t uu top x) y g)
-
     -- THE END
-    pub up_done : {us ds ms st : List ℕ} {s : Scope} {e n : ℕ} {o : Made} → o ≡ Made.Entry e n → Ascends us ds ms st s e n 0 → Typed D walk.types us walk.classes ds walk.count (query_at code walk.start) walk.scope o
+    pub up_done : {us ds ms st : List ℕ} {s : Scope} {m : Made} → Ascends us ds ms st s m.at m.count 0 → Typed D walk.types us walk.classes ds walk.count (query_at code walk.start) walk.scope (Std.Ok m)
     unfolding resume
-    up_done {us} {e = e} {n = n} p a = rw p record { is = λ g h. record { answer = bottomed a.stacked.stack g (a.rest g h); long = a.held.long; longs = a.held.longs; ready = (a.begins.ready, a.low) } }
+    up_done {us} {m = m} a = record { is = λ g h. record { answer = bottomed a.stacked.stack g (a.rest g h); long = a.held.long; longs = a.held.longs; ready = (a.begins.ready, a.low) } }
       where
-        bottomed : {fs : List Frame} {st : List ℕ} → Stack code walk.scope walk.nodes st n 0 fs → (g : Typing.Scope) → onwards fs g (ok (table_of us n, e)) ≡ whole g → ok (table_of us n, e) ≡ whole g
+        bottomed : {fs : List Frame} {st : List ℕ} → Stack code walk.scope (length walk.code) st m.count 0 fs → (g : Typing.Scope) → onwards fs g (ok (table_of us m.count, m.at)) ≡ whole g → ok (table_of us m.count, m.at) ≡ whole g
         bottomed bottom g h = h
 
-    pub up_stops : {us ds ms st : List ℕ} {k place : ℕ} {o : Made} → o ≡ Made.Refused k place → Stops us ds ms st k place → Typed D walk.types us walk.classes ds walk.count (query_at code walk.start) walk.scope o
-    up_stops p a = rw p record { is = λ g h. record { answer = a.rest g h; long = a.held.long; longs = a.held.longs; ready = tt } }
+    pub up_stops : {us ds ms st : List ℕ} {s : Scope} {before : ℕ} {r : Refusal} → Stepped us ds ms st s (Std.Err r) before → Typed D walk.types us walk.classes ds walk.count (query_at code walk.start) walk.scope (Std.Err r)
+    up_stops x = record { is = λ g h. record { answer = x.is.rest g h; long = x.is.held.long; longs = x.is.held.longs; ready = tt } }
 
     -- A STEP UP, to the frame on top
     module _ {us ds ms st : List ℕ} {s : Scope} {e n i : ℕ} (a : Ascends us ds ms st s e n (suc i)) where
-      top : Top code walk.scope walk.nodes st n i a.frames
+      top : Top code walk.scope (length walk.code) st n i a.frames
       top = top_of code walk.scope a.stacked.stack
 
       abbrev fs : List Frame
@@ -253,20 +235,19 @@ module _ (walk : Walk) where
       b = binder (query_at code f.node)
 
       pub up_room : 2048 ≤ walk.deep → 2 * i + 1 < length st
-      up_room l = omega (arith, a.held.deep, top.sound.low, coded.few)
+      up_room l = omega (arith, a.held.deep, top.sound.low, lowers.few)
 
-      pub up_framed : 2048 ≤ walk.deep → Framed ds walk.code walk.nodes st i e
-      up_framed d =
+      pub up_framed : 2048 ≤ walk.deep → 8192 ≤ walk.marked → Framed D us ds ms walk.code n s st i e
+      up_framed d m =
           record {
-            coded = coded;
+            begins = a.begins;
+            marked = omega (arith, a.held.marked);
+            lowers = lowers;
             low = omega (arith, top.sound.low, top.sound.node);
             room = up_room d;
-            long = a.begins.ready.long;
-            few = omega (arith, a.low, a.begins.ready.lent.fits);
+            there = a.low;
+            kept = rw (top.sound.node, top.sound.keeps) top.sound.few;
           }
-
-      up_kept : Kept n (query_at code (get_or st (2 * i) 0)) (get_or st (2 * i + 1) 0)
-      up_kept = rw (top.sound.node, top.sound.keeps) top.sound.few
 
       -- the scope by the frame on top
       framed : s ≡ inside b f.kept f.var (scope_of code walk.scope fs)
@@ -286,20 +267,19 @@ module _ (walk : Walk) where
       within_outside (some v) (suc k) = within_unbind v a.begins.within
 
       -- the node is done
-      module _ {vs es ns tt' : List ℕ} {r : Step} (p : length ns ≡ length ms) where
-        done_steps : (o : Made) → tt' ≡ st → r ≡ record { next = rose o i; scope = outside b f.kept s } → ((x m : ℕ) → o ≡ Made.Entry x m → n ≤ m)
+      module _ {vs es ns tt' : List ℕ} {r : Result Next Refusal} {t : Scope} (p : length ns ≡ length ms) where
+        done_steps : (o : Result Made Refusal) → tt' ≡ st → r ≡ rose o i → t ≡ outside b f.kept s → ((m : Made) → o ≡ Std.Ok m → n ≤ m.count)
             → ((g : Typing.Scope) → Shows (outside b f.kept s) g → Left D us vs ds es o (onward (type_capacity (length us)) D (query_at code f.node) f.kept g (ok (table_of us n, e))))
-            → Stepped vs es ns tt' r (left st (Next.Up e n (suc i)))
-        done_steps o q j more is =
+            → Stepped vs es ns tt' t r (work code walk.scope st (suc i))
+        done_steps o q j z more is =
             let first = is (shown (outside b f.kept s)) (shows_shown (outside b f.kept s)) in
             let held : Held vs es ns st = record { long = first.long ∙ a.held.long; longs = first.longs ∙ a.held.longs; marked = p ∙ a.held.marked; deep = a.held.deep } in
             let k : Stacked st n i (outside b f.kept s) fs = record { stack = top.under; scoped = left_it } in
-            rw (j, q) (record {
-              is = rising held k o first.ready (λ x m y. (more x m y, within_more (more x m y) (within_outside b f.kept))) (λ g h.
+            rw (j, q, z) (record {
+              is = rising held k (work_some code walk.scope st i) o first.ready (λ m y. (more m y, within_more (more m y) (within_outside b f.kept))) (λ g h.
                   ap (onwards fs g) (is (names_of code walk.scope fs g) (shows g k h)).answer
                   ∙ ap (λ (l : ℕ). onwards fs g (onward (type_capacity l) D (query_at code f.node) f.kept (names_of code walk.scope fs g) (ok (table_of us n, e)))) a.held.long
                   ∙ framed_rest g h);
-              less = omega (arith, work_some code walk.scope st i, left_rose st o i);
             })
 
       -- its second part comes
@@ -334,65 +314,42 @@ module _ (walk : Walk) where
             let y : cost (query_at code (get_or st (2 * i) 0)) (get_or st (2 * i + 1) 0) ≡ cost (query_at code f.node) 0 = ap (λ (j : ℕ). cost (query_at code j) (get_or st (2 * i + 1) 0)) top.sound.node ∙ ap (cost (query_at code f.node)) (top.sound.keeps ∙ none_kept) in
             omega (arith, q, z, y)
 
-      turned : {vs es ns tt' : List ℕ} {r : Step} → 2048 ≤ walk.deep → length ns ≡ length ms → length tt' ≡ length st → Turns D code us vs ds es n s f.node f.kept e st tt' i r → Stepped vs es ns tt' r (left st (Next.Up e n (suc i)))
-      turned d p q (Walking.done o k j more is) = done_steps p o k j more is
-      turned {vs = vs} d p q (Walking.second c x m y z l k j begins more long longs low freed less is) =
-          rw (j, k) (record {
-            is =
-                record {
-                  held = record { long = long ∙ a.held.long; longs = longs ∙ a.held.longs; marked = p ∙ a.held.marked; deep = sym (ap length k) ∙ q ∙ a.held.deep };
-                  begins = begins;
-                  low = omega (arith, top.sound.low);
-                  frames = record { node = f.node; kept = suc x; var = y } ∷ fs;
-                  stacked = record { stack = kept_stack code walk.scope st i (suc x) (up_room d) y top.sound (stack_more code walk.scope more top.under) low (subst (Freed b (suc x)) (same z) freed); scoped = second_scoped z x y };
-                  rest = second_rest z c x m y vs is;
-                };
-            less = second_less z c x (up_room d) less;
+      turned : {vs es ns tt' : List ℕ} {r : Result Next Refusal} {t : Scope} → 2048 ≤ walk.deep → length ns ≡ length ms → length tt' ≡ length st → Turns D code us vs ds es n s f.node f.kept e st tt' i r t → Stepped vs es ns tt' t r (work code walk.scope st (suc i))
+      turned d p q (Walking.done o k j v more is) = done_steps p o k j v more is
+      turned {vs = vs} d p q (Walking.second c x m y z l k j v begins more long longs low freed less is) =
+          rw (j, k, v) (record {
+            is = (
+              record {
+                held = record { long = long ∙ a.held.long; longs = longs ∙ a.held.longs; marked = p ∙ a.held.marked; deep = sym (ap length k) ∙ q ∙ a.held.deep };
+                begins = begins;
+                low = omega (arith, top.sound.low);
+                frames = record { node = f.node; kept = suc x; var = y } ∷ fs;
+                stacked = record { stack = kept_stack code walk.scope st i (suc x) (up_room d) y top.sound (stack_more code walk.scope more top.under) low (subst (Freed b (suc x)) (same z) freed); scoped = second_scoped z x y };
+                rest = second_rest z c x m y vs is;
+              },
+              second_less z c x (up_room d) less,
+            );
           })
 
-      pub up_steps : {vs es ns tt' : List ℕ} {r : Step} → 2048 ≤ walk.deep → length ns ≡ length ms → length tt' ≡ length st → Turns D code us vs ds es n s (get_or st (2 * i) 0) (get_or st (2 * i + 1) 0) e st tt' i r → Stepped vs es ns tt' r (left st (Next.Up e n (suc i)))
-      up_steps {vs} {es} {ns} {tt'} {r} d p q t = turned d p q (subst (λ (k : ℕ). Turns D code us vs ds es n s f.node k e st tt' i r) top.sound.keeps (subst (λ (j : ℕ). Turns D code us vs ds es n s j (get_or st (2 * i + 1) 0) e st tt' i r) top.sound.node t))
-
-      -- the same whatever the scope; and one that binds
-      module _ {vs es tt' : List ℕ} {r : Leaving} (d : 2048 ≤ walk.deep) (l : Leaves code us vs ds es n e st tt' i r) where
-        pub plain_up : {to : Next} → r ≡ Leaving.Plain to → length tt' ≡ length st → Stepped vs es ms tt' (record { next = to; scope = s }) (left st (Next.Up e n (suc i)))
-        plain_up p q = up_steps {ns = ms} d refl q (leaves_plain l p D s a.begins a.low up_kept)
-
-        pub binds_begins : {b : Bind} → r ≡ Leaving.Binds b → Begins D vs es n s
-        binds_begins p = let x = leaves_binds l p in rw (x.types, x.classes) a.begins
-
-        pub binds_room : {b : Bind} → r ≡ Leaving.Binds b → 2 * i + 1 < length tt'
-        binds_room p = omega (arith, ap length (leaves_binds l p).stack, up_room d)
-
-        pub binds_few : {b : Bind} → r ≡ Leaving.Binds b → variable_of b ≤ 63
-        binds_few p = (leaves_binds l p).few
-
-        pub binds_up : {b : Bind} {xs ys ns uu : List ℕ} {x : Step} → r ≡ Leaving.Binds b → length ns ≡ length ms → length uu ≡ length tt'
-            → ((C : List Node) (p : Query) → query_at C (get_or tt' (2 * i) 0) ≡ binding (get_or tt' (2 * i) 0) b p (query_at C (body_of b)) → body_of b < get_or tt' (2 * i) 0 → Turns D C vs xs es ys n s (get_or tt' (2 * i) 0) (get_or tt' (2 * i + 1) 0) e tt' uu i x)
-            → Stepped xs ys ns uu x (left st (Next.Up e n (suc i)))
-        binds_up {b} {xs} {ys} {ns} {uu} {x} p q z h =
-            let y = leaves_binds l p in
-            up_steps {ns = ns} d q (z ∙ ap length y.stack) (binds_turns y h)
+      pub up_steps : {vs es ns tt' : List ℕ} {r : Result Next Refusal} {t : Scope} → 2048 ≤ walk.deep → length ns ≡ length ms → length tt' ≡ length st → Turns D code us vs ds es n s (get_or st (2 * i) 0) (get_or st (2 * i + 1) 0) e st tt' i r t → Stepped vs es ns tt' t r (work code walk.scope st (suc i))
+      up_steps {vs} {es} {ns} {tt'} {r} {t} d p q h = turned d p q (subst (λ (k : ℕ). Turns D code us vs ds es n s f.node k e st tt' i r t) top.sound.keeps (subst (λ (j : ℕ). Turns D code us vs ds es n s j (get_or st (2 * i + 1) 0) e st tt' i r t) top.sound.node h))
 
   -- WHERE IT STANDS, as the loop tells
   module _ {us ds ms st : List ℕ} {s : Scope} {next : Next} (g : Going us ds ms st s next) where
     pub at_node : {node n top : ℕ} → next ≡ Next.Down node n top → Descends us ds ms st s node n top
     at_node p = subst (Stands us ds ms st s) p g.is
 
-    pub at_stop : {k place : ℕ} → next ≡ Next.Stop k place → Stops us ds ms st k place
-    at_stop p = subst (Stands us ds ms st s) p g.is
-
-    pub at_end : {e n top : ℕ} → next ≡ Next.Up e n top → top ≡ 0 → Ascends us ds ms st s e n 0
+    pub at_end : {m : Made} {top : ℕ} → next ≡ Next.Up m top → top ≡ 0 → Ascends us ds ms st s m.at m.count 0
     at_end p z = subst (Ascends us ds ms st s _ _) z (subst (Stands us ds ms st s) p g.is)
 
-    pub at_frame : {e n top : ℕ} → next ≡ Next.Up e n top → top ≢ 0 → Ascends us ds ms st s e n (suc (top - 1))
+    pub at_frame : {m : Made} {top : ℕ} → next ≡ Next.Up m top → top ≢ 0 → Ascends us ds ms st s m.at m.count (suc (top - 1))
     at_frame p z = subst (Ascends us ds ms st s _ _) (one_less z) (subst (Stands us ds ms st s) p g.is)
 
-  pub stepped_going : {us ds ms st : List ℕ} {r : Step} {m : ℕ} → Stepped us ds ms st r m → Going us ds ms st r.scope r.next
-  stepped_going x = record { is = x.is }
+  pub stepped_going : {us ds ms st : List ℕ} {s : Scope} {next : Next} {m : ℕ} → Stepped us ds ms st s (Std.Ok next) m → Going us ds ms st s next
+  stepped_going x = record { is = x.is.0 }
 
-  pub stepped_less : {us ds ms st : List ℕ} {r : Step} (st' : List ℕ) {old : Next} {node n top : ℕ} → old ≡ Next.Down node n top → Stepped us ds ms st r (left st' (Next.Down node n top)) → left st r.next < left st' old
-  stepped_less st' p x = rw p x.less
+  pub stepped_less : {us ds ms st : List ℕ} {s : Scope} {next : Next} (st' : List ℕ) {old : Next} {node n top : ℕ} → old ≡ Next.Down node n top → Stepped us ds ms st s (Std.Ok next) (left st' (Next.Down node n top)) → left st next < left st' old
+  stepped_less st' p x = rw p x.is.1
 
-  pub framed_less : {us ds ms st : List ℕ} {r : Step} (st' : List ℕ) {old : Next} {e n top : ℕ} → old ≡ Next.Up e n top → top ≢ 0 → Stepped us ds ms st r (left st' (Next.Up e n (suc (top - 1)))) → left st r.next < left st' old
-  framed_less st' p z x = rw (p, one_less z) x.less
+  pub framed_less : {us ds ms st : List ℕ} {s : Scope} {next : Next} (st' : List ℕ) {old : Next} {m : Made} {top : ℕ} → old ≡ Next.Up m top → top ≢ 0 → Stepped us ds ms st s (Std.Ok next) (work code walk.scope st' (suc (top - 1))) → left st next < left st' old
+  framed_less st' p z x = rw (p, one_less z) x.is.1

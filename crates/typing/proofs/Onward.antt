@@ -1,37 +1,37 @@
--- A query by its first part: its walk is what is left of it when that part has answered. And steps down, in a scope and in every one.
+-- A query by its first part: its walk is what is left of it when that part has answered. And steps down.
 -- Assumes nothing.
+use Rattle.std.specs.Prelude as Std
+use Rattle.std.specs.Prelude.{Result}
+use mathlib.Core.Logic.{◌⊎◌, inl, inr}
 use mathlib.Core.Path.{◌≡◌, refl, sym, ap, subst, ◌∙◌}
 use mathlib.Core.List.{List}
 use Prim.Native.Nat.{ℕ, suc, ◌+◌, ◌*◌, ◌≤◌, ◌<◌}
 use native.Mathlib.Omega.{arith}
+use lib.ListN.{length}
 use Rattle.meaning.specs.Base.{Out, ok, refused}
 use Rattle.meaning.specs.Types.{Table, Defs}
-use Rattle.meaning.specs.Records.{Node}
+use Rattle.meaning.specs.Records.{Node, node_at}
 use Rattle.meaning.specs.Queries as Queries
 use Rattle.meaning.specs.Queries.{Query, Cond, query_at, cond_at}
 use Rattle.meaning.specs.Typing as Typing
 use Rattle.meaning.specs.Typing.{type_cond}
-use Rattle.words.specs.Tables.{code_of, node_in}
-use Rattle.uses.specs.Counts.{Coded}
+use Rattle.refusals.specs.declared.Refusal.{Refusal}
+use Rattle.refusals.specs.Says.{number_of}
+use Rattle.uses.specs.Counts.{Lowers}
 use Rattle.scope.specs.declared.Scope.{Scope}
 use Rattle.scope.specs.Shows.{Shows}
-use Rattle.conds.specs.Says.{verdict, Answers}
-use Rattle.conds.specs.declared.Verdict.{Verdict}
+use Rattle.conds.specs.Says.{Answers}
 use Rattle.grow.specs.declared.Made.{Made}
-use Rattle.leaves.specs.Walk.{Begins, walked, Walks}
-use Rattle.leaves.specs.declared.Walked.{Walked}
+use Rattle.leaves.specs.Walk.{walked, Walks}
 use Rattle.leaves.proofs.Steps.{left_refused}
 use Rattle.queries.specs.Says.{query_of, Says}
 use Rattle.queries.specs.declared.Query as Nodes
-use Rattle.queries.proofs.Named.{query_is}
+use Rattle.queries.proofs.Named.{query_is, element_low, pair_low, for_low, let_low, when_low}
 use Rattle.joins.specs.Joins.{sourced}
 use Rattle.joins.proofs.Composed.{walked_element, walked_pair, walked_when, walked_when_not, walked_let, walked_for}
 use Rattle.typing.specs.declared.Next.{Next}
-use Rattle.typing.specs.declared.Step.{Step}
-use Rattle.typing.specs.declared.Ask.{Ask}
-use Rattle.typing.specs.declared.Entering.{Entering}
 use Rattle.typing.specs.Walking as Walking
-use Rattle.typing.specs.Walking.{onward, size, cost, rose, stepped, begun, asking, Goes, Enters, Guards}
+use Rattle.typing.specs.Walking.{onward, size, cost, rose, begun, Goes}
 
 pub size_some : (q : Query) → 1 ≤ size q
 unfolding size
@@ -74,59 +74,52 @@ module _ (D : Defs) (s : Scope) (n : ℕ) where
   when_first p q c = record { less = omega arith; law = λ room g t h. walked_when room D n g t p q (c g h) }
 
 -- STEPS DOWN
-module _ {code : List ℕ} {nodes n : ℕ} (coded : Coded code nodes) (low : n < nodes) {c : Nodes.Query} (says : Says n (node_in code n) c) where
+module _ {code : List Node} {n : ℕ} (lowers : Lowers code) (low : n < length code) {c : Nodes.Query} (says : Says n (node_at code n) c) where
   abbrev pub query : ℕ → Query
-  query i = query_at (code_of code nodes) i
+  query i = query_at code i
 
   abbrev pub cond : ℕ → Cond
-  cond i = cond_at (code_of code nodes) i
+  cond i = cond_at code i
 
   -- the query at the node by what the node says
   pub asked : (x : Nodes.Query) → c ≡ x → query_of n cond query x ≡ query n
-  asked x p = sym (query_is code nodes coded low says ∙ ap (query_of n cond query) p)
+  asked x p = sym (query_is code lowers low says ∙ ap (query_of n cond query) p)
 
-  module _ {D : Defs} {ws cs st st' : List ℕ} {count top : ℕ} {s : Scope} {r : Step} where
-    pub goes_done : {us ds : List ℕ} (x : Nodes.Query) → c ≡ x → (w : Walked) → Walks D ws us cs ds count (query_of n cond query x) s w → st' ≡ st → r ≡ stepped w top → Goes D (code_of code nodes) ws us cs ds count s n st st' top r
-    goes_done {us} {ds} x p w k = Walking.done w (subst (λ (q : Query). Walks D ws us cs ds count q s w) (asked x p) k)
+  module _ {D : Defs} {ws cs st : List ℕ} {count top : ℕ} {s : Scope} where
+    -- a node that its walk makes, or refuses
+    pub goes_done : {us ds : List ℕ} (x : Nodes.Query) → c ≡ x → (w : Result Made Refusal) → Walks D ws us cs ds count (query_of n cond query x) s w → Goes D code ws us cs ds count s n st st top (rose w top)
+    goes_done {us} {ds} x p w k = Walking.done w (subst (λ (q : Query). Walks D ws us cs ds count q s w) (asked x p) k) refl refl
 
-    -- by what its walk made, whatever scope it handed back
-    pub goes_made : {us ds : List ℕ} {made : Made} (x : Nodes.Query) → c ≡ x → {t : Scope} → Walks D ws us cs ds count (query_of n cond query x) s (record { made = made; scope = t }) → st' ≡ st → r ≡ record { next = rose made top; scope = s } → Goes D (code_of code nodes) ws us cs ds count s n st st' top r
-    goes_made {made = made} x p k = goes_done x p (record { made = made; scope = s }) (record { kept = refl; is = k.is })
+    module _ {st' : List ℕ} {to : Next} where
+      goes_first : (x : Nodes.Query) → c ≡ x → (q : ℕ) → q < n → First D s (query_of n cond query x) (query q) → to ≡ Next.Down q count (suc top) → st' ≡ begun st top n → Goes D code ws ws cs cs count s n st st' top (Std.Ok to)
+      goes_first x p q l f e k =
+          let g = subst (λ (y : Query). First D s y (query q)) (asked x p) f in
+          Walking.first q l refl refl k (ap Std.Ok e) g.less g.law
 
-    pub goes_first : (x : Nodes.Query) → c ≡ x → (q : ℕ) → q < n → First D s (query_of n cond query x) (query q) → r ≡ record { next = Next.Down q count (suc top); scope = s } → st' ≡ begun st top n → Goes D (code_of code nodes) ws ws cs cs count s n st st' top r
-    goes_first x p q l f e k = let g = subst (λ (y : Query). First D s y (query q)) (asked x p) f in Walking.first q l refl refl k e g.less g.law
+      -- one with parts, of which p comes first
+      pub goes_part : {p : ℕ} → ((l : ℕ) × (c ≡ Nodes.TheVariants.Element l p)) ⊎ (((q : ℕ) × (c ≡ Nodes.TheVariants.Pair p q)) ⊎ (((v : ℕ) × (q : ℕ) × (c ≡ Nodes.TheVariants.For v p q)) ⊎ ((v : ℕ) × (q : ℕ) × (c ≡ Nodes.TheVariants.Let v p q))))
+          → to ≡ Next.Down p count (suc top) → st' ≡ begun st top n → Goes D code ws ws cs cs count s n st st' top (Std.Ok to)
+      goes_part {p} (inl (l, z)) =
+          goes_first (Nodes.TheVariants.Element l p) z p (element_low code lowers low says z).2 (element_first D s n l (query p))
+      goes_part {p} (inr (inl (q, z))) =
+          goes_first (Nodes.TheVariants.Pair p q) z p (pair_low code lowers low says z).0 (pair_first D s n (query p) (query q))
+      goes_part {p} (inr (inr (inl (v, q, z)))) =
+          goes_first (Nodes.TheVariants.For v p q) z p (for_low code lowers low says z).1 (for_first D s n v (query p) (query q))
+      goes_part {p} (inr (inr (inr (v, q, z)))) =
+          goes_first (Nodes.TheVariants.Let v p q) z p (let_low code lowers low says z).1 (let_first D s n v (query p) (query q))
 
-    pub goes_when : {i q : ℕ} → c ≡ Nodes.TheVariants.When i q → q < n → Guards (code_of code nodes) i s n q count st st' top r → Goes D (code_of code nodes) ws ws cs cs count s n st st' top r
-    goes_when {i} {q} p l (Walking.stops k place e j told) =
-        goes_done (Nodes.TheVariants.When i q) p (record { made = Made.Refused k place; scope = s }) (record { kept = refl; is = λ g z. left_refused (walked_when_not _ D n g _ (cond i) (query q) (told g z)) }) e j
-    goes_when {i} {q} p l (Walking.passes e j told) = goes_first (Nodes.TheVariants.When i q) p q l (when_first D s n (cond i) (query q) told) j e
+  -- when, by its condition at node j
+  module _ {i q j : ℕ} (z : c ≡ Nodes.TheVariants.When i q) (e : j ≡ i) where
+    pub when_in : j < length code
+    when_in = omega (arith, (when_low code lowers low says z).0, low)
 
--- WHATEVER THE SCOPE: the step in this one, and what is asked of it
-entered : {code st st' : List ℕ} {nodes count n top : ℕ} {to : Next} → Enters code nodes count n st st' top (Entering.Plain to)
-    → (D : Defs) (ws cs : List ℕ) (s : Scope) → Begins D ws cs count s → Goes D (code_of code nodes) ws ws cs cs count s n st st' top (record { next = to; scope = s })
-entered (Walking.plain h) = h
+    told : {s : Scope} {o : Out (Unit {0})} → Answers s o (λ g. type_cond (cond j) g) → (g : Typing.Scope) → Shows s g → type_cond (cond i) g ≡ o
+    told a g h = sym (ap (λ (k : ℕ). type_cond (cond k) g) e) ∙ sym (a.is g h)
 
-still : {code st st' : List ℕ} {nodes count n top : ℕ} {a : Ask} → Enters code nodes count n st st' top (Entering.Asks a) → (st' ≡ st) × Says n (node_in code n) (asking a)
-still (Walking.asks e h) = (e, h)
+    module _ {D : Defs} {ws cs st : List ℕ} {count top : ℕ} {s : Scope} where
+      pub when_stops : {r : Refusal} → Answers s (refused (number_of r.reason) r.place) (λ g. type_cond (cond j) g) → Goes D code ws ws cs cs count s n st st top (Std.Err r)
+      when_stops {r} a =
+          goes_done (Nodes.TheVariants.When i q) z (Std.Err r) (record { is = λ g h. left_refused (walked_when_not _ D n g _ (cond i) (query q) (told a g h)) })
 
-module _ {code st st' : List ℕ} {nodes count n top : ℕ} {r : Entering} (e : Enters code nodes count n st st' top r) where
-  pub enters_plain : {to : Next} → r ≡ Entering.Plain to → (D : Defs) (ws cs : List ℕ) (s : Scope) → Begins D ws cs count s → Goes D (code_of code nodes) ws ws cs cs count s n st st' top (record { next = to; scope = s })
-  enters_plain p = entered (subst (Enters code nodes count n st st' top) p e)
-
-  pub enters_still : {a : Ask} → r ≡ Entering.Asks a → st' ≡ st
-  enters_still p = (still (subst (Enters code nodes count n st st' top) p e)).0
-
-  pub enters_says : {a : Ask} → r ≡ Entering.Asks a → Says n (node_in code n) (asking a)
-  enters_says p = (still (subst (Enters code nodes count n st st' top) p e)).1
-
--- A WHEN'S CONDITION
-module _ (code : List Node) {i p : ℕ} {s t : Scope} (x : Verdict) (e : i ≡ p) (a : Answers s t (verdict x) (λ g. type_cond (cond_at code i) g)) where
-  told : (o : Out (Unit {0})) → verdict x ≡ o → (g : Typing.Scope) → Shows s g → type_cond (cond_at code p) g ≡ o
-  told o j g h = sym (ap (λ (k : ℕ). type_cond (cond_at code k) g) e) ∙ sym (a.is g h) ∙ j
-
-  module _ {n q count top : ℕ} {st : List ℕ} where
-    pub guard_stops : {k place : ℕ} → x ≡ Verdict.Refused k place → Guards code p s n q count st st top (record { next = Next.Stop k place; scope = s })
-    guard_stops {k} {place} j = Walking.stops k place refl refl (told (refused k place) (ap verdict j))
-
-    pub guard_passes : {st' : List ℕ} {r : Step} → x ≡ Verdict.Fine → r ≡ record { next = Next.Down q count (suc top); scope = s } → st' ≡ begun st top n → Guards code p s n q count st st' top r
-    guard_passes j k z = Walking.passes z k (told (ok tt) (ap verdict j))
+      pub when_passes : {st' : List ℕ} {to : Next} → Answers s (ok tt) (λ g. type_cond (cond j) g) → to ≡ Next.Down q count (suc top) → st' ≡ begun st top n → Goes D code ws ws cs cs count s n st st' top (Std.Ok to)
+      when_passes a = goes_first (Nodes.TheVariants.When i q) z q (when_low code lowers low says z).1 (when_first D s n (cond i) (query q) (told a))

@@ -1,6 +1,7 @@
 -- The stack of the walk: the frames that its words are, the scope that they make, and what they leave to do.
 -- Assumes nothing.
-use mathlib.Core.Path.{◌≡◌, refl, ap, ◌∙◌}
+use Rattle.std.specs.Prelude as Std
+use mathlib.Core.Path.{◌≡◌, refl, ap, subst, ◌∙◌}
 use mathlib.Core.List.{List, [], ◌∷◌, ◌++◌}
 use mathlib.Core.Option.{Option, none, some}
 use Prim.Native.Nat.{ℕ, zero, suc, ◌+◌, ◌*◌, ◌≤◌, ◌<◌}
@@ -15,7 +16,7 @@ use Rattle.meaning.specs.Queries as Queries
 use Rattle.meaning.specs.Queries.{Query, query_at}
 use Rattle.meaning.specs.Typing as Typing
 use Rattle.scope.specs.declared.Scope.{Scope}
-use Rattle.scope.specs.Shows.{Shows, slot_of, var_of}
+use Rattle.scope.specs.Shows.{Shows, var_of, bound}
 use Rattle.scope.proofs.Slots.{shows_bind, unbind_bind}
 use Rattle.typing.specs.Walking.{onward, binder, named, coded, inside, outside, Kept, Freed, size, half_cost, cost, begun}
 
@@ -30,25 +31,26 @@ pub named_none : (b : Option ℕ) (y : Records.Var) (s : Scope) → (named b 0 y
 named_none none y s = (refl, refl)
 named_none (some v) y s = (refl, refl)
 
-coded_is : (y : Records.Var) → var_of (coded y) ≡ some y
+coded_is : (y : Records.Var) → var_of (coded y) ≡ y
 coded_is (Records.tree e) = refl
 coded_is (Records.forest e) = refl
 
 inside_wide : (b : Option ℕ) (k : ℕ) (y : Records.Var) (s : Scope) → length (inside b k y s).slots ≡ length s.slots
 inside_wide none k y s = refl
 inside_wide (some v) zero y s = refl
-inside_wide (some v) (suc k) y s = length-set s.slots v (slot_of (coded y))
+inside_wide (some v) (suc k) y s = length-set s.slots v (Std.Some (coded y))
 
 module _ (s : Scope) (wide : length s.slots ≡ 64) where
   pub outside_inside : (b : Option ℕ) (k : ℕ) (y : Records.Var) → Freed b k s → outside b k (inside b k y s) ≡ s
   outside_inside none k y f = refl
   outside_inside (some v) zero y f = refl
-  outside_inside (some v) (suc k) y f = unbind_bind s [] v (omega (arith, f.few, wide)) (slot_of (coded y)) f.is
+  outside_inside (some v) (suc k) y f = unbind_bind s [] v (omega (arith, f.few, wide)) (Std.Some (coded y)) f.is
 
   inside_shows : (b : Option ℕ) (k : ℕ) (y : Records.Var) (g : Typing.Scope) → Freed b k s → Shows s g → Shows (inside b k y s) (named b k y ++ g)
   inside_shows none k y g f h = h
   inside_shows (some v) zero y g f h = h
-  inside_shows (some v) (suc k) y g f h = shows_bind s g v (omega (arith, f.few, wide)) (coded y) y (coded_is y) h
+  inside_shows (some v) (suc k) y g f h =
+      subst (λ (x : Records.Var). Shows (bound s v (Std.Some (coded y))) ((v, x) ∷ g)) (coded_is y) (shows_bind s g v (omega (arith, f.few, wide)) (coded y) h)
 
 -- a refusal passes
 onward_refused : (room : ℕ) (D : Defs) (q : Query) (k : ℕ) (g : Typing.Scope) (n place : ℕ) → onward room D q k g (refused n place) ≡ refused n place

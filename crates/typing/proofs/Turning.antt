@@ -1,5 +1,7 @@
 -- A query with the answer of a part: steps up.
 -- Assumes nothing.
+use Rattle.std.specs.Prelude as Std
+use Rattle.std.specs.Prelude.{Result}
 use mathlib.Core.Path.{◌≡◌, refl, sym, ap, subst, ◌∙◌}
 use mathlib.Core.Logic.{◌≢◌}
 use mathlib.Core.Bool.{not}
@@ -31,40 +33,36 @@ use Rattle.classes.specs.Classes.{code_of as classCode, class_of}
 use Rattle.classes.proofs.Laws.{of_code}
 use Rattle.scope.specs.declared.Scope.{Scope}
 use Rattle.scope.specs.declared.Var.TheVariants as Var
-use Rattle.scope.specs.Shows.{Shows, slot_of, slot_var, bound}
-use Rattle.scope.proofs.Slots.{slot_none}
+use Rattle.scope.specs.Shows.{Shows, found, bound}
 use Rattle.grow.specs.Grow.{Left, New}
 use Rattle.grow.specs.declared.Made.{Made}
 use Rattle.grow.proofs.Entries.{new_element, new_pair}
 use Rattle.grow.proofs.Steps.{left_here, left_stop, left_ready, after_ok, made, kept_count}
 use Rattle.walks.proofs.Grown.{prime_count}
 use Rattle.leaves.specs.Walk.{Within, Begins, walked}
-use Rattle.leaves.specs.declared.Walked.{Walked}
+use Rattle.refusals.specs.declared.Refusal.{Refusal}
 use Rattle.leaves.proofs.Steps.{left_as}
 use Rattle.joins.specs.Joins.{Adds, Repeats, Frees, loop}
 use Rattle.joins.proofs.Growing.{within_more, within_bind}
 use Rattle.typing.specs.declared.Next.{Next}
-use Rattle.typing.specs.declared.Step.{Step}
 use Rattle.typing.specs.Walking as Walking
-use Rattle.typing.specs.Walking.{onward, binder, named, inside, outside, Kept, Free, Freed, size, cost, rose, stepped, Turns}
+use Rattle.typing.specs.Walking.{onward, binder, named, inside, outside, Kept, Free, Freed, size, cost, rose, Turns}
 
--- where the walk stands, with a scope
-pub there : (s : Scope) {x y : Next} → x ≡ y → ◌≡◌ {A = Step} (record { next = x; scope = s }) (record { next = y; scope = s })
-there s p = λ i. record { next = p i; scope = s }
-
--- 14 does not stop a variable whose word is 0
+-- 14 does not stop a variable for which nothing stands
 pub free_ok : {s : Scope} {v : ℕ} (n : ℕ) (g : Typing.Scope) → Free s v → Shows s g → unbound n g v ≡ ok tt
 free_ok {s} {v} n g f h =
-    let p : find v g ≡ none = sym (h v (omega (arith, f.few))) ∙ sym (slot_none (get_or s.slots v 0) f.is) in
+    let p : find v g ≡ none = sym (h v (omega (arith, f.few))) ∙ ap found f.is in
     ap (λ (x : Option Records.Var). require (not (is_some x)) 14 n) p
 
--- a variable without its word
-pub within_unbind : {s : Scope} {n : ℕ} (v : ℕ) → Within s n → Within (bound s v 0) n
-within_unbind {s} {n} v w = record { wide = length-set s.slots v 0 ∙ w.wide; low = λ i z j f. go i z j f (ℕ_discrete i v) }
+-- a scope without the variable
+pub within_unbind : {s : Scope} {n : ℕ} (v : ℕ) → Within s n → Within (bound s v Std.None) n
+within_unbind {s} {n} v w = record { wide = length-set s.slots v Std.None ∙ w.wide; low = λ i z j f. go i z j f (ℕ_discrete i v) }
   where
-    go : (i : ℕ) (z : Records.Var) → i < 64 → slot_var (get_or (set s.slots v 0) i 0) ≡ some z → Dec (i ≡ v) → type_in z < n
-    go i z j f (yes p) = absurd_option (slot_none (get_or (set s.slots v 0) i 0) (rw p (get_or-set_same s.slots v 0 0 (omega (arith, w.wide)))) ∙ f)
-    go i z j f (no p) = w.low i z j (sym (ap slot_var (get_or-set_other s.slots v i 0 0 p)) ∙ f)
+    go : (i : ℕ) (z : Records.Var) → i < 64 → found (get_or (set s.slots v Std.None) i Std.None) ≡ some z → Dec (i ≡ v) → type_in z < n
+    go i z j f (yes p) =
+        let here : get_or (set s.slots v Std.None) i Std.None ≡ Std.None = rw p (get_or-set_same s.slots v Std.None Std.None (omega (arith, w.wide))) in
+        absurd_option (sym (ap found here) ∙ f)
+    go i z j f (no p) = w.low i z j (sym (ap found (get_or-set_other s.slots v i Std.None Std.None p)) ∙ f)
 
 -- what a step up leaves of a query x that keeps k: it is done, or its second part p comes, the query at node q
 module _ (D : Defs) (ws cs : List ℕ) (count : ℕ) (s : Scope) (k at i : ℕ) where
@@ -74,13 +72,13 @@ module _ (D : Defs) (ws cs : List ℕ) (count : ℕ) (s : Scope) (k at i : ℕ) 
   abbrev T : Table
   T = table_of ws count
 
-  pub record Done (us ds : List ℕ) (x : Query) (o : Made) (r : Step) : Type 0 where
-    pub step : r ≡ record { next = rose o i; scope = outside (binder x) k s }
-    pub more : (e m : ℕ) → o ≡ Made.Entry e m → count ≤ m
+  pub record Done (us ds : List ℕ) (x : Query) (o : Result Made Refusal) (t : Scope) : Type 0 where
+    pub scope : t ≡ outside (binder x) k s
+    pub more : (m : Made) → o ≡ Std.Ok m → count ≤ m.count
     pub is : (g : Typing.Scope) → Shows (outside (binder x) k s) g → Left D ws us cs ds o (onward room D x k g (ok (T, at)))
 
-  pub record Second (us ds : List ℕ) (x p : Query) (q kept m : ℕ) (y : Records.Var) (r : Step) : Type 0 where
-    pub step : r ≡ record { next = Next.Down q m (suc i); scope = inside (binder x) (suc kept) y s }
+  pub record Second (us ds : List ℕ) (x p : Query) (kept m : ℕ) (y : Records.Var) (t : Scope) : Type 0 where
+    pub scope : t ≡ inside (binder x) (suc kept) y s
     pub begins : Begins D us ds m (inside (binder x) (suc kept) y s)
     pub more : count ≤ m
     pub long : length us ≡ length ws
@@ -90,28 +88,29 @@ module _ (D : Defs) (ws cs : List ℕ) (count : ℕ) (s : Scope) (k at i : ℕ) 
     pub less : cost x (suc kept) + 3 * size p < cost x 0
     pub is : (g : Typing.Scope) → Shows s g → onward room D x 0 g (ok (T, at)) ≡ onward room D x (suc kept) g (walked room D p (named (binder x) (suc kept) y ++ g) (table_of us m))
 
-  module _ {code : List Node} {n : ℕ} {us ds st st' : List ℕ} {r : Step} (x : Query) (a : query_at code n ≡ x) where
-    pub turn_done : {o : Made} → Done us ds x o r → st' ≡ st → Turns D code ws us cs ds count s n k at st st' i r
-    turn_done {o} d e = let f = subst (λ (q : Query). Done us ds q o r) (sym a) d in Walking.done o e f.step f.more f.is
+  module _ {code : List Node} {n : ℕ} {us ds st : List ℕ} {t : Scope} (x : Query) (a : query_at code n ≡ x) where
+    pub turn_done : (o : Result Made Refusal) → Done us ds x o t → Turns D code ws us cs ds count s n k at st st i (rose o i) t
+    turn_done o d = let f = subst (λ (q : Query). Done us ds q o t) (sym a) d in Walking.done o refl refl f.scope f.more f.is
 
-    pub turn_second : {q kept m w : ℕ} {y : Records.Var} → k ≡ 0 → q < n → Second us ds x (query_at code q) q kept m y r → w ≡ suc kept → st' ≡ set st (2 * i + 1) w → Turns D code ws us cs ds count s n k at st st' i r
-    turn_second {q} {kept} {m} {y = y} z l d v e =
-        let f = subst (λ (c : Query). Second us ds c (query_at code q) q kept m y r) (sym a) d in
-        Walking.second q kept m y z l (e ∙ ap (set st (2 * i + 1)) v) f.step f.begins f.more f.long f.longs f.low f.freed f.less f.is
+    pub turn_second : {st' : List ℕ} {q kept m w : ℕ} {y : Records.Var} {to : Next} → k ≡ 0 → q < n → Second us ds x (query_at code q) kept m y t → to ≡ Next.Down q m (suc i) → w ≡ suc kept → st' ≡ set st (2 * i + 1) w
+        → Turns D code ws us cs ds count s n k at st st' i (Std.Ok to) t
+    turn_second {q = q} {kept} {m} {y = y} z l d j v e =
+        let f = subst (λ (c : Query). Second us ds c (query_at code q) kept m y t) (sym a) d in
+        Walking.second q kept m y z l (e ∙ ap (set st (2 * i + 1)) v) (ap Std.Ok j) f.scope f.begins f.more f.long f.longs f.low f.freed f.less f.is
 
   -- from a table in which the part's answer is an entry
   module _ (B : Begins D ws cs count s) (low : at < count) where
-    abbrev part : Scope → Walked
-    part t = record { made = Made.Entry at count; scope = t }
+    abbrev part : Made
+    part = record { at = at; count = count }
 
-    here : Left D ws ws cs cs (Made.Entry at count) (ok (T, at))
+    here : Left D ws ws cs cs (Std.Ok part) (ok (T, at))
     here = left_here B.ready low
 
     fits : length T ≤ room
     fits = rw table_length B.ready.lent.fits
 
-    grown : {us ds : List ℕ} {x : Out (Table × ℕ)} {R : ℕ → ℕ → Type 0} {o : Made} → Ends (Grew D room T) R x → Left D ws us cs ds o x → (e m : ℕ) → o ≡ Made.Entry e m → count ≤ m
-    grown {us} ends g e m p = kept_count ws us count m (made ends p g).grows
+    grown : {us ds : List ℕ} {x : Out (Table × ℕ)} {R : ℕ → ℕ → Type 0} {o : Result Made Refusal} → Ends (Grew D room T) R x → Left D ws us cs ds o x → (m : Made) → o ≡ Std.Ok m → count ≤ m.count
+    grown {us} ends g m p = kept_count ws us count m.count (made ends p g).grows
 
     appends : {kind a b : ℕ} {x : Entry} {n : ℕ} → New count kind a b x → Ends (Grew D room T) (Full n) (append room n x T)
     appends {x = x} {n} y = append_ends D room (omega arith) n x T B.ready.formed fits (rw table_length y.low) y.plain
@@ -119,56 +118,56 @@ module _ (D : Defs) (ws cs : List ℕ) (count : ℕ) (s : Scope) (k at i : ℕ) 
     repeats : {n : ℕ} (c : ℕ) → Ends (Grew D room T) (Full n) (times room n at (class_of c) T)
     repeats {n} c = times_ends D room (omega arith) n at (class_of c) T B.ready.formed fits (rw table_length low)
 
-    again : {o : Made} → o ≡ Made.Entry at count → (e m : ℕ) → o ≡ Made.Entry e m → count ≤ m
-    again q e m p = let z : count ≡ m = cc in omega arith
+    again : (m : Made) → ◌≡◌ {A = Result Made Refusal} (Std.Ok part) (Std.Ok m) → count ≤ m.count
+    again m p = let z : part ≡ m = cc in let y : count ≡ m.count = ap (λ (u : Made). u.count) z in omega arith
 
     -- a query that has nothing left to do
-    pub still : {x : Query} → binder x ≡ none → ((g : Typing.Scope) (o : Out (Table × ℕ)) → onward room D x k g o ≡ o) → Done ws cs x (Made.Entry at count) (record { next = Next.Up at count i; scope = s })
+    pub still : {x : Query} → binder x ≡ none → ((g : Typing.Scope) (o : Out (Table × ℕ)) → onward room D x k g o ≡ o) → Done ws cs x (Std.Ok part) s
     still {x} b f =
         record {
-          step = rw b refl;
-          more = again refl;
+          scope = rw b refl;
+          more = again;
           is = λ g h. left_as here (sym (f g (ok (T, at))));
         }
 
     module _ (n : ℕ) where
       -- ELEMENT
-      pub element_done : {us ds : List ℕ} {o : Made} {to : Next} (l : ℕ) (p : Query) → 1 ≤ l → l ≤ 65534 → Adds ws us cs ds count n 3 l at o → to ≡ rose o i → Done us ds (Queries.element n l p) o (record { next = to; scope = s })
+      pub element_done : {us ds : List ℕ} {o : Result Made Refusal} (l : ℕ) (p : Query) → 1 ≤ l → l ≤ 65534 → Adds ws us cs ds count n 3 l at o → Done us ds (Queries.element n l p) o s
       unfolding onward binder
-      element_done l p j z a e =
+      element_done l p j z a =
           let new : New count 3 l at (Types.element l at) = new_element j z low in
           let g = a.is D (Types.element l at) new B.ready in
-          record { step = there s e; more = grown (appends new) g; is = λ _ _. g }
+          record { scope = refl; more = grown (appends new) g; is = λ _ _. g }
 
       -- PAIR: its second part, and then the pair
-      pub pair_second : {to : Next} (p q : Query) (c : ℕ) → k ≡ 0 → to ≡ Next.Down c count (suc i) → Second ws cs (Queries.pair n p q) q c at count (Records.tree 0) (record { next = to; scope = s })
+      pub pair_second : (p q : Query) → k ≡ 0 → Second ws cs (Queries.pair n p q) q at count (Records.tree 0) s
       unfolding onward binder cost
-      pair_second p q c z e =
-          record { step = there s e; begins = B; more = omega arith; long = refl; longs = refl; low = omega (arith, low); freed = tt; less = omega arith; is = λ g h. refl }
+      pair_second p q z =
+          record { scope = refl; begins = B; more = omega arith; long = refl; longs = refl; low = omega (arith, low); freed = tt; less = omega arith; is = λ g h. refl }
 
-      pub pair_done : {us ds : List ℕ} {o : Made} {to : Next} (p q : Query) (x : ℕ) → k ≡ suc x → k ≤ count → Adds ws us cs ds count n 4 x at o → to ≡ rose o i → Done us ds (Queries.pair n p q) o (record { next = to; scope = s })
+      pub pair_done : {us ds : List ℕ} {o : Result Made Refusal} (p q : Query) (x : ℕ) → k ≡ suc x → k ≤ count → Adds ws us cs ds count n 4 x at o → Done us ds (Queries.pair n p q) o s
       unfolding onward binder
-      pair_done p q x z l a e =
+      pair_done p q x z l a =
           let new : New count 4 x at (Types.pair x at) = new_pair (omega (arith, l, z)) low in
           let g = a.is D (Types.pair x at) new B.ready in
-          record { step = there s e; more = grown (appends new) g; is = λ h _. rw z g }
+          record { scope = refl; more = grown (appends new) g; is = λ h _. rw z g }
 
       -- WHEN
-      pub when_done : {us ds : List ℕ} {o : Made} {to : Next} (p : Cond) (q : Query) → Repeats ws us cs ds count n 2 at o → to ≡ rose o i → Done us ds (Queries.when n p q) o (record { next = to; scope = s })
+      pub when_done : {us ds : List ℕ} {o : Result Made Refusal} (p : Cond) (q : Query) → Repeats ws us cs ds count n 2 at o → Done us ds (Queries.when n p q) o s
       unfolding onward binder class_of times allowing
-      when_done p q a e =
+      when_done p q a =
           let g = a.is D B.ready low in
-          record { step = there s e; more = grown (repeats 2) g; is = λ _ _. g }
+          record { scope = refl; more = grown (repeats 2) g; is = λ _ _. g }
 
       -- LET AND FOR: 14 stops them
       module _ (v : ℕ) (x : Query) (b : binder x ≡ some v) (F : Typing.Scope → ℕ → Rule ℕ)
           (law : (g : Typing.Scope) (o : Out (Table × ℕ)) → onward room D x 0 g o ≡ after (after o (λ e. from_out (Base.◌>>=◌ (unbound n g v) λ _. ok e))) (F g)) where
-        bound_stops : {source : Walked} {r : Step} {a c : ℕ} → k ≡ 0 → Frees n v (part s) source → source.made ≡ Made.Refused a c → r ≡ stepped source i → Done ws cs x source.made r
-        bound_stops {source} z f y e =
+        bound_stops : {r : Refusal} → k ≡ 0 → Frees n v s (Std.Ok part) (Std.Err r) → Done ws cs x (Std.Err r) s
+        bound_stops z f =
             record {
-              step = rw (b, z) (e ∙ ap (λ (t : Scope). record { next = rose source.made i; scope = t }) f.kept);
-              more = λ l m j. again refl l m (f.entry l m j).0;
-              is = λ g h. rw z (left_as (left_stop (F g) y (f.is g (rw (b, z) at h) D ws ws cs cs (ok (T, at)) here)) (sym (law g (ok (T, at)))));
+              scope = rw (b, z) refl;
+              more = λ m j. again m (f.entry m j).0;
+              is = λ g h. rw z (left_as (left_stop (F g) refl (f.is g (rw (b, z) at h) D ws ws cs cs (ok (T, at)) here)) (sym (law g (ok (T, at)))));
             }
 
         -- and let them through where the variable is free
@@ -192,19 +191,19 @@ module _ (D : Defs) (ws cs : List ℕ) (count : ℕ) (s : Scope) (k at i : ℕ) 
         unfolding binder
         for_binds = refl
 
-        pub let_stops : {source : Walked} {r : Step} {a c : ℕ} → k ≡ 0 → Frees n v (part s) source → source.made ≡ Made.Refused a c → r ≡ stepped source i → Done ws cs (Queries.let_in n v p q) source.made r
+        pub let_stops : {r : Refusal} → k ≡ 0 → Frees n v s (Std.Ok part) (Std.Err r) → Done ws cs (Queries.let_in n v p q) (Std.Err r) s
         let_stops = bound_stops v (Queries.let_in n v p q) let_binds (λ g e. walked room D q ((v, Records.forest e) ∷ g)) let_law
 
-        pub for_stops : {source : Walked} {r : Step} {a c : ℕ} → k ≡ 0 → Frees n v (part s) source → source.made ≡ Made.Refused a c → r ≡ stepped source i → Done ws cs (Queries.for n v p q) source.made r
+        pub for_stops : {r : Refusal} → k ≡ 0 → Frees n v s (Std.Ok part) (Std.Err r) → Done ws cs (Queries.for n v p q) (Std.Err r) s
         for_stops = bound_stops v (Queries.for n v p q) for_binds (λ g. loop room D n g v q) for_law
 
         -- LET: its body, and after it
-        pub let_second : {r : Step} (c : ℕ) → Free s v → r ≡ record { next = Next.Down c count (suc i); scope = bound s v (slot_of (Var.Forest at)) } → Second ws cs (Queries.let_in n v p q) q c 0 count (Records.forest at) r
+        pub let_second : {j : ℕ} {t : Scope} → Free s v → j ≡ v → t ≡ bound s j (Std.Some (Var.Forest at)) → Second ws cs (Queries.let_in n v p q) q 0 count (Records.forest at) t
         unfolding onward binder cost
-        let_second c f e =
+        let_second f j e =
             record {
-              step = e;
-              begins = record { ready = B.ready; within = within_bind (Var.Forest at) (Records.forest at) refl low (omega (arith, f.few)) B.within };
+              scope = e ∙ ap (λ (l : ℕ). bound s l (Std.Some (Var.Forest at))) j;
+              begins = record { ready = B.ready; within = within_bind (Var.Forest at) low (omega (arith, f.few)) B.within };
               more = omega arith;
               long = refl;
               longs = refl;
@@ -214,29 +213,28 @@ module _ (D : Defs) (ws cs : List ℕ) (count : ℕ) (s : Scope) (k at i : ℕ) 
               is = λ g h. through v (Queries.let_in n v p q) let_binds (λ g e. walked room D q ((v, Records.forest e) ∷ g)) let_law f g h;
             }
 
-        pub let_done : {r : Step} {w : ℕ} {t : Scope} (x : ℕ) → k ≡ suc x → w ≡ v → t ≡ bound s w 0 → r ≡ stepped (part t) i → Done ws cs (Queries.let_in n v p q) (Made.Entry at count) r
+        pub let_done : {w : ℕ} {t : Scope} (x : ℕ) → k ≡ suc x → w ≡ v → t ≡ bound s w Std.None → Done ws cs (Queries.let_in n v p q) (Std.Ok part) t
         unfolding onward binder
-        let_done x z j b e = record { step = rw z (e ∙ ap (λ (u : Scope). stepped (part u) i) (b ∙ ap (λ (l : ℕ). bound s l 0) j)); more = again refl; is = λ g h. rw z here }
+        let_done x z j b = record { scope = rw z (b ∙ ap (λ (l : ℕ). bound s l Std.None) j); more = again; is = λ g h. rw z here }
 
         -- FOR: prime, its body, and U.q after it
-        module _ {us ds : List ℕ} {o : Made} (f : Free s v) (w : Left D ws us cs ds o (prime room n (shape D T at) T)) where
-          pub prime_stops : {r : Step} {a c : ℕ} → k ≡ 0 → o ≡ Made.Refused a c → r ≡ record { next = rose o i; scope = s } → Done us ds (Queries.for n v p q) o r
+        module _ {us ds : List ℕ} {o : Result Made Refusal} (f : Free s v) (w : Left D ws us cs ds o (prime room n (shape D T at) T)) where
+          pub prime_stops : {r : Refusal} → k ≡ 0 → o ≡ Std.Err r → Done us ds (Queries.for n v p q) o s
           unfolding binder
-          prime_stops z y e =
+          prime_stops z y =
               record {
-                step = rw z e;
-                more = λ l m j. prime_count n B.ready low w j;
+                scope = rw z refl;
+                more = λ m j. prime_count n B.ready low w j;
                 is = λ g h. rw z (left_as (left_stop _ y w) (sym (through v (Queries.for n v p q) for_binds (λ g. loop room D n g v q) for_law f g (rw z at h))));
               }
 
-          pub for_second : {r : Step} {e m j : ℕ} {t : Scope} (c class : ℕ) → o ≡ Made.Entry e m → class ≡ classCode (quant (shape D T at)) → j ≡ v → t ≡ bound s j (slot_of (Var.Tree e)) → r ≡ record { next = Next.Down c m (suc i); scope = t }
-              → Second us ds (Queries.for n v p q) q c class m (Records.tree e) r
+          pub for_second : {m : Made} {j : ℕ} {t : Scope} (class : ℕ) → o ≡ Std.Ok m → class ≡ classCode (quant (shape D T at)) → j ≡ v → t ≡ bound s j (Std.Some (Var.Tree m.at)) → Second us ds (Queries.for n v p q) q class m.count (Records.tree m.at) t
           unfolding onward binder cost
-          for_second {e = e} {m} c class y z j b k =
+          for_second {m} class y z j b =
               let l = left_ready y w in
               record {
-                step = k ∙ ap (λ (u : Scope). record { next = Next.Down c m (suc i); scope = u }) (b ∙ ap (λ (l : ℕ). bound s l (slot_of (Var.Tree e))) j);
-                begins = record { ready = l.0; within = within_bind (Var.Tree e) (Records.tree e) refl l.1 (omega (arith, f.few)) (within_more (prime_count n B.ready low w y) B.within) };
+                scope = b ∙ ap (λ (l : ℕ). bound s l (Std.Some (Var.Tree m.at))) j;
+                begins = record { ready = l.0; within = within_bind (Var.Tree m.at) l.1 (omega (arith, f.few)) (within_more (prime_count n B.ready low w y) B.within) };
                 more = prime_count n B.ready low w y;
                 long = w.long;
                 longs = w.longs;
@@ -246,48 +244,42 @@ module _ (D : Defs) (ws cs : List ℕ) (count : ℕ) (s : Scope) (k at i : ℕ) 
                 is =
                     λ g h. through v (Queries.for n v p q) for_binds (λ g. loop room D n g v q) for_law f g h
                     ∙ ap (λ (a : Out (Table × ℕ)). after a (λ x s. after (walked room D q ((v, Records.tree x) ∷ g) s) (λ u. times room n u (quant (shape D T at))))) (after_ok y w)
-                    ∙ ap (λ (b : Class). after (walked room D q ((v, Records.tree e) ∷ g) (table_of us m)) (λ u. times room n u b)) (sym (of_code (quant (shape D T at)) z));
+                    ∙ ap (λ (b : Class). after (walked room D q ((v, Records.tree m.at) ∷ g) (table_of us m.count)) (λ u. times room n u b)) (sym (of_code (quant (shape D T at)) z));
               }
 
-        pub for_done : {us ds : List ℕ} {o : Made} {to : Next} {j : ℕ} {t : Scope} (c : ℕ) → k ≡ suc c → j ≡ v → t ≡ bound s j 0 → Repeats ws us cs ds count n c at o → to ≡ rose o i → Done us ds (Queries.for n v p q) o (record { next = to; scope = t })
+        pub for_done : {us ds : List ℕ} {o : Result Made Refusal} {j : ℕ} {t : Scope} (c : ℕ) → k ≡ suc c → j ≡ v → t ≡ bound s j Std.None → Repeats ws us cs ds count n c at o → Done us ds (Queries.for n v p q) o t
         unfolding onward binder
-        for_done {o = o} {t = t} c z j b a e =
+        for_done {o = o} c z j b a =
             let g = a.is D B.ready low in
             record {
-              step = rw z (there t e ∙ ap (λ (t : Scope). record { next = rose o i; scope = t }) (b ∙ ap (λ (l : ℕ). bound s l 0) j));
+              scope = rw z (b ∙ ap (λ (l : ℕ). bound s l Std.None) j);
               more = grown (repeats c) g;
               is = λ _ _. rw z g;
             }
 
--- AFTER 14: the source's answer and scope are as they were, and the variable is free
-module _ {n v at count e m : ℕ} {s : Scope} {source : Walked} (f : Frees n v (record { made = Made.Entry at count; scope = s }) source) (y : source.made ≡ Made.Entry e m) where
-  pub freed_at : at ≡ e
-  freed_at = let z = (f.entry e m y).0 in cc
-
-  pub freed_count : count ≡ m
-  freed_count = let z = (f.entry e m y).0 in cc
+-- AFTER 14: what the source made is as it was, and the variable is free
+module _ {n v : ℕ} {part source : Made} {s : Scope} (f : Frees n v s (Std.Ok part) (Std.Ok source)) where
+  pub freed_is : part ≡ source
+  freed_is = let z = (f.entry source refl).0 in cc
 
   pub freed : v ≤ 63 → Free s v
-  freed l = record { few = l; is = (f.entry e m y).1 }
+  freed l = record { few = l; is = (f.entry source refl).1 }
 
-  pub freed_again : v ≤ 63 → Free source.scope v
-  freed_again l = subst (λ (t : Scope). Free t v) (sym f.kept) (freed l)
+  -- the scope with the source's type for the variable, and the step to the body
+  pub freed_bound : {t : Scope} (w : ℕ) → t ≡ bound s w (Std.Some (Var.Forest source.at)) → t ≡ bound s w (Std.Some (Var.Forest part.at))
+  freed_bound {t} w e = subst (λ (m : Made). t ≡ bound s w (Std.Some (Var.Forest m.at))) (sym freed_is) e
 
-  pub freed_begins : {D : Defs} {ws cs : List ℕ} → Begins D ws cs count s → Begins D ws cs m source.scope
-  freed_begins {D} {ws} {cs} B = rw (f.kept, ← freed_count) B
+  pub freed_goes : {to : Next} {q i : ℕ} → to ≡ Next.Down q source.count (suc i) → to ≡ Next.Down q part.count (suc i)
+  freed_goes {to} {q} {i} e = subst (λ (m : Made). to ≡ Next.Down q m.count (suc i)) (sym freed_is) e
 
-  -- a step from there is one from here
-  pub freed_turns : {D : Defs} {code : List Node} {ws us cs ds st st' : List ℕ} {k i : ℕ} {r : Step} → k ≡ 0 → Turns D code ws us cs ds m source.scope n 0 e st st' i r → Turns D code ws us cs ds count s n k at st st' i r
-  freed_turns z t = rw (z, freed_at, freed_count, ← f.kept) t
-
-  -- the scope with the source's type for the variable
-  pub freed_bound : {i c j : ℕ} {t : Scope} {r : Step} → j ≡ v → t ≡ bound source.scope j (slot_of (Var.Forest e)) → r ≡ record { next = Next.Down c m (suc i); scope = t }
-      → r ≡ record { next = Next.Down c count (suc i); scope = bound s v (slot_of (Var.Forest at)) }
-  freed_bound {j = j} p q z = rw (freed_at, freed_count, ← p, ← f.kept, ← q) z
+  -- a step from what the source made is one from the part
+  pub freed_turns : {D : Defs} {code : List Node} {ws us cs ds st st' : List ℕ} {k i : ℕ} {r : Result Next Refusal} {t : Scope} → k ≡ 0 → Turns D code ws us cs ds source.count s n 0 source.at st st' i r t → Turns D code ws us cs ds part.count s n k part.at st st' i r t
+  freed_turns {D} {code} {ws} {us} {cs} {ds} {st} {st'} {k} {i} {r} {t} z h =
+      subst (λ (j : ℕ). Turns D code ws us cs ds part.count s n j part.at st st' i r t) (sym z) (subst (λ (m : Made). Turns D code ws us cs ds m.count s n 0 m.at st st' i r t) (sym freed_is) h)
 
 -- AFTER PRIME: its entry's number is low, and so is a class
-pub made_low : {D : Defs} {ws us cs ds : List ℕ} {o : Made} {x : Out (Table × ℕ)} {e m : ℕ} → o ≡ Made.Entry e m → Left D ws us cs ds o x → e < 4096
-made_low y w = omega (arith, (left_ready y w).0.lent.fits, (left_ready y w).1)
+pub made_low : {D : Defs} {ws us cs ds : List ℕ} {m : Made} {x : Out (Table × ℕ)} → Left D ws us cs ds (Std.Ok m) x → m.at < 4096
+made_low w = omega (arith, (left_ready refl w).0.lent.fits, (left_ready refl w).1)
 
 code_few : (q : Class) → classCode q ≤ 4
 unfolding classCode
@@ -298,10 +290,6 @@ code_few any = omega arith
 
 pub class_few : {D : Defs} {ws cs : List ℕ} {count at : ℕ} {s : Scope} → Begins D ws cs count s → at < count → get_or cs at 0 ≤ 4
 class_few {D} {ws} {count = count} {at} B low = omega (arith, B.ready.filled.right at (rw table_length low), code_few (quant (shape D (table_of ws count) at)))
-
--- down at a node under another name
-pub went : (count : ℕ) {x q t u : ℕ} → x ≡ q → t ≡ u → Next.Down x count t ≡ Next.Down q count u
-went count p k = λ i. Next.Down (p i) count (k i)
 
 pub one_less : {n : ℕ} → n ≢ 0 → n ≡ suc (n - 1)
 one_less h = omega arith

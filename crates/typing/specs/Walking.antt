@@ -1,37 +1,30 @@
 -- The typing walk as a loop over a stack: what a query does when a part of it has answered, and what the steps down and up leave.
 -- Assumes nothing.
-use Rattle.std.specs.Prelude.{◌≡◌, List, [], ◌∷◌, ◌++◌, ℕ, zero, suc, ◌+◌, ◌*◌, ◌≤◌, ◌<◌, length, get_or, set, take}
+use Rattle.std.specs.Prelude.{◌≡◌, Result, Ok, Err, Some, None, List, [], ◌∷◌, ◌++◌, ℕ, zero, suc, ◌+◌, ◌*◌, ◌≤◌, ◌<◌, length, get_or, set}
 use Rattle.std.proofs.Math.Option.{Option, none, some}
 use Rattle.meaning.specs.Base as Base
-use Rattle.meaning.specs.Base.{Out, ok, refused, type_capacity}
+use Rattle.meaning.specs.Base.{Out, ok, type_capacity}
 use Rattle.meaning.specs.Types as Types
 use Rattle.meaning.specs.Types.{Table, Defs}
 use Rattle.meaning.specs.Records as Records
 use Rattle.meaning.specs.Records.{Node}
 use Rattle.meaning.specs.Queries as Queries
-use Rattle.meaning.specs.Queries.{Query, query_at, cond_at}
+use Rattle.meaning.specs.Queries.{Query, query_at}
 use Rattle.meaning.specs.Rules.{after, from_out, append, times}
 use Rattle.meaning.specs.Typing as Typing
-use Rattle.meaning.specs.Typing.{unbound, type_cond}
-use Rattle.words.specs.Tables.{table_of, code_of, node_in}
-use Rattle.uses.specs.Counts.{Coded}
+use Rattle.meaning.specs.Typing.{unbound}
+use Rattle.refusals.specs.declared.Refusal.{Refusal}
+use Rattle.words.specs.Tables.{table_of}
+use Rattle.uses.specs.Counts.{Lowers}
 use Rattle.classes.specs.Classes.{class_of}
 use Rattle.scope.specs.declared.Scope.{Scope}
 use Rattle.scope.specs.declared.Var.{Var}
-use Rattle.scope.specs.Shows.{Shows, slot_of, bound}
+use Rattle.scope.specs.Shows.{Shows, bound}
 use Rattle.grow.specs.Grow.{Left}
 use Rattle.grow.specs.declared.Made.{Made}
 use Rattle.leaves.specs.Walk.{Begins, walked, Walks}
-use Rattle.leaves.specs.declared.Walked.{Walked}
-use Rattle.queries.specs.Says.{Says}
-use Rattle.queries.specs.declared.Query as Nodes
 use Rattle.joins.specs.Joins.{loop}
 use Rattle.typing.specs.declared.Next.{Next}
-use Rattle.typing.specs.declared.Step.{Step}
-use Rattle.typing.specs.declared.Ask.{Ask}
-use Rattle.typing.specs.declared.Entering.{Entering}
-use Rattle.typing.specs.declared.Bind.{Bind}
-use Rattle.typing.specs.declared.Leaving.{Leaving}
 
 -- WHAT IS LEFT OF A QUERY in a scope, when a part of it has answered o. It keeps 0 while its first part is done. While its second part is done it keeps
 -- one more than a number: a pair its first part's entry, a for its source's class.
@@ -88,17 +81,17 @@ coded (Records.forest e) = Var.Forest e
 abbrev pub inside : Option ℕ → ℕ → Records.Var → Scope → Scope
 inside none k y s = s
 inside (some v) zero y s = s
-inside (some v) (suc k) y s = bound s v (slot_of (coded y))
+inside (some v) (suc k) y s = bound s v (Some (coded y))
 
 abbrev pub outside : Option ℕ → ℕ → Scope → Scope
 outside none k s = s
 outside (some v) zero s = s
-outside (some v) (suc k) s = bound s v 0
+outside (some v) (suc k) s = bound s v None
 
--- a variable's word is 0, so that binding and unbinding it gives the scope back
+-- nothing stands for a variable, so that binding and unbinding it gives the scope back
 pub record Free (s : Scope) (v : ℕ) : Type 0 where
   pub few : v ≤ 63
-  pub is : get_or s.slots v 0 ≡ 0
+  pub is : get_or s.slots v None ≡ None
 
 abbrev pub Freed : Option ℕ → ℕ → Scope → Type 0
 Freed none k s = Unit {0}
@@ -134,91 +127,51 @@ cost (Queries.for n v p q) k = half_cost (size q) k
 cost (Queries.let_in n v p q) k = half_cost (size q) k
 cost (Queries.when n p q) k = 1
 
--- STEPS. Up with a node's answer, or the end with its refusal; with what its walk left; and the stack with a frame for node n
-abbrev pub rose : Made → ℕ → Next
-rose (Made.Entry e m) top = Next.Up e m top
-rose (Made.Refused k place) top = Next.Stop k place
-
-abbrev pub stepped : Walked → ℕ → Step
-stepped w top = record { next = rose w.made top; scope = w.scope }
+-- STEPS. Up with what a node made, or its refusal; and the stack with a frame for node n
+abbrev pub rose : Result Made Refusal → ℕ → Result Next Refusal
+rose (Ok m) top = Ok (Next.Up m top)
+rose (Err r) top = Err r
 
 abbrev pub begun : List ℕ → ℕ → ℕ → List ℕ
 begun st top n = set (set st (2 * top) n) (2 * top + 1) 0
 
 -- what the walk of node n is given: types, classes and a scope to begin with; marks, definitions and the query's nodes
-pub record Here (types classes marks defs : List ℕ) (used : ℕ) (code : List ℕ) (nodes count n : ℕ) (s : Scope) : Type 0 where
-  pub begins : Begins (take used defs) types classes count s
+pub record Here (types classes marks : List ℕ) (D : Defs) (code : List Node) (count n : ℕ) (s : Scope) : Type 0 where
+  pub begins : Begins D types classes count s
   pub marked : 8192 ≤ length marks
-  pub listed : used ≤ length defs
-  pub coded : Coded code nodes
-  pub low : n < nodes
+  pub lowers : Lowers code
+  pub low : n < length code
 
--- and what a frame is given, whose part has answered `at`, whatever the scope
-pub record Framed (classes code : List ℕ) (nodes : ℕ) (st : List ℕ) (i at : ℕ) : Type 0 where
-  pub coded : Coded code nodes
-  pub low : get_or st (2 * i) 0 < nodes
+-- and what a frame is given, whose part has answered `at`
+pub record Framed (D : Defs) (types classes marks : List ℕ) (code : List Node) (count : ℕ) (s : Scope) (st : List ℕ) (i at : ℕ) : Type 0 where
+  pub begins : Begins D types classes count s
+  pub marked : 4096 ≤ length marks
+  pub lowers : Lowers code
+  pub low : get_or st (2 * i) 0 < length code
   pub room : 2 * i + 1 < length st
-  pub long : 4096 ≤ length classes
-  pub few : at < 4096
-
--- the query that looks variables up, as its node gives it
-abbrev pub asking : Ask → Nodes.Query
-asking (Ask.Variable v) = Nodes.TheVariants.Variable v
-asking (Ask.Child v w) = Nodes.TheVariants.Child v w
-asking (Ask.Dos v w) = Nodes.TheVariants.Dos v w
-asking (Ask.When p q) = Nodes.TheVariants.When p q
-
--- the query that binds a variable: which one, the node of its body, and the query at node n with this source and this body
-abbrev pub variable_of : Bind → ℕ
-variable_of (Bind.For v q) = v
-variable_of (Bind.Let v q) = v
-
-abbrev pub body_of : Bind → ℕ
-body_of (Bind.For v q) = q
-body_of (Bind.Let v q) = q
-
-abbrev pub binding : ℕ → Bind → Query → Query → Query
-binding n (Bind.For v q) x y = Queries.for n v x y
-binding n (Bind.Let v q) x y = Queries.let_in n v x y
+  pub there : at < count
+  pub kept : Kept count (query_at code (get_or st (2 * i) 0)) (get_or st (2 * i + 1) 0)
 
 -- A STEP DOWN at node n, over `top` frames: the node is done, or it is begun and a part of it comes first
-pub data Goes (D : Defs) (code : List Node) (ws us cs ds : List ℕ) (count : ℕ) (s : Scope) (n : ℕ) (st st' : List ℕ) (top : ℕ) (r : Step) : Type 0 where
-  done : (w : Walked) → Walks D ws us cs ds count (query_at code n) s w → st' ≡ st → r ≡ stepped w top → Goes D code ws us cs ds count s n st st' top r
-  first : (q : ℕ) → q < n → us ≡ ws → ds ≡ cs → st' ≡ begun st top n → r ≡ record { next = Next.Down q count (suc top); scope = s }
+pub data Goes (D : Defs) (code : List Node) (ws us cs ds : List ℕ) (count : ℕ) (s : Scope) (n : ℕ) (st st' : List ℕ) (top : ℕ) (r : Result Next Refusal) : Type 0 where
+  done : (w : Result Made Refusal) → Walks D ws us cs ds count (query_at code n) s w → st' ≡ st → r ≡ rose w top → Goes D code ws us cs ds count s n st st' top r
+  first : (q : ℕ) → q < n → us ≡ ws → ds ≡ cs → st' ≡ begun st top n → r ≡ Ok (Next.Down q count (suc top))
       → cost (query_at code n) 0 + 3 * size (query_at code q) < 3 * size (query_at code n)
       → ((room : ℕ) (g : Typing.Scope) (t : Table) → Shows s g → walked room D (query_at code n) g t ≡ onward room D (query_at code n) 0 g (walked room D (query_at code q) g t))
       → Goes D code ws us cs ds count s n st st' top r
 
--- as far as it goes whatever the scope: it is such a step in every scope, or nothing is done yet and the node is one that asks
-pub data Enters (code : List ℕ) (nodes count n : ℕ) (st st' : List ℕ) (top : ℕ) : Entering → Type 0 where
-  plain : {to : Next} → ((D : Defs) (ws cs : List ℕ) (s : Scope) → Begins D ws cs count s → Goes D (code_of code nodes) ws ws cs cs count s n st st' top (record { next = to; scope = s })) → Enters code nodes count n st st' top (Entering.Plain to)
-  asks : {a : Ask} → st' ≡ st → Says n (node_in code n) (asking a) → Enters code nodes count n st st' top (Entering.Asks a)
-
--- of a when: its condition is p and its part is q
-pub data Guards (code : List Node) (p : ℕ) (s : Scope) (n q count : ℕ) (st st' : List ℕ) (top : ℕ) (r : Step) : Type 0 where
-  stops : (k place : ℕ) → st' ≡ st → r ≡ record { next = Next.Stop k place; scope = s } → ((g : Typing.Scope) → Shows s g → type_cond (cond_at code p) g ≡ refused k place) → Guards code p s n q count st st' top r
-  passes : st' ≡ begun st top n → r ≡ record { next = Next.Down q count (suc top); scope = s } → ((g : Typing.Scope) → Shows s g → type_cond (cond_at code p) g ≡ ok tt) → Guards code p s n q count st st' top r
-
 -- A STEP UP to node n, the frame over i others, which keeps k and whose part has answered `at`: the node is done, or its second part comes, with
--- variable y
-pub data Turns (D : Defs) (code : List Node) (ws us cs ds : List ℕ) (count : ℕ) (s : Scope) (n k at : ℕ) (st st' : List ℕ) (i : ℕ) (r : Step) : Type 0 where
-  done : (made : Made) → st' ≡ st → r ≡ record { next = rose made i; scope = outside (binder (query_at code n)) k s } → ((e m : ℕ) → made ≡ Made.Entry e m → count ≤ m)
+-- variable y; from scope s to scope t
+pub data Turns (D : Defs) (code : List Node) (ws us cs ds : List ℕ) (count : ℕ) (s : Scope) (n k at : ℕ) (st st' : List ℕ) (i : ℕ) (r : Result Next Refusal) (t : Scope) : Type 0 where
+  done : (made : Result Made Refusal) → st' ≡ st → r ≡ rose made i → t ≡ outside (binder (query_at code n)) k s → ((m : Made) → made ≡ Ok m → count ≤ m.count)
       → ((g : Typing.Scope) → Shows (outside (binder (query_at code n)) k s) g → Left D ws us cs ds made (onward (type_capacity (length ws)) D (query_at code n) k g (ok (table_of ws count, at))))
-      → Turns D code ws us cs ds count s n k at st st' i r
-  second : (q x m : ℕ) (y : Records.Var) → k ≡ 0 → q < n → st' ≡ set st (2 * i + 1) (suc x) → r ≡ record { next = Next.Down q m (suc i); scope = inside (binder (query_at code n)) (suc x) y s }
+      → Turns D code ws us cs ds count s n k at st st' i r t
+  second : (q x m : ℕ) (y : Records.Var) → k ≡ 0 → q < n → st' ≡ set st (2 * i + 1) (suc x) → r ≡ Ok (Next.Down q m (suc i)) → t ≡ inside (binder (query_at code n)) (suc x) y s
       → Begins D us ds m (inside (binder (query_at code n)) (suc x) y s) → count ≤ m → length us ≡ length ws → length ds ≡ length cs → Kept m (query_at code n) (suc x) → Freed (binder (query_at code n)) (suc x) s
       → cost (query_at code n) (suc x) + 3 * size (query_at code q) < cost (query_at code n) 0
       → ((g : Typing.Scope) → Shows s g → onward (type_capacity (length ws)) D (query_at code n) 0 g (ok (table_of ws count, at)) ≡ onward (type_capacity (length ws)) D (query_at code n) (suc x) g (walked (type_capacity (length ws)) D (query_at code q) (named (binder (query_at code n)) (suc x) y ++ g) (table_of us m)))
-      → Turns D code ws us cs ds count s n k at st st' i r
-
--- as far as it goes whatever the scope: it is such a step in every scope, or nothing is done yet and the node is one that binds
-pub data Leaves (code : List Node) (ws us cs ds : List ℕ) (count at : ℕ) (st st' : List ℕ) (i : ℕ) : Leaving → Type 0 where
-  plain : {to : Next}
-      → ((D : Defs) (s : Scope) → Begins D ws cs count s → at < count → Kept count (query_at code (get_or st (2 * i) 0)) (get_or st (2 * i + 1) 0) → Turns D code ws us cs ds count s (get_or st (2 * i) 0) (get_or st (2 * i + 1) 0) at st st' i (record { next = to; scope = s }))
-      → Leaves code ws us cs ds count at st st' i (Leaving.Plain to)
-  binds : {b : Bind} (p : Query) → us ≡ ws → ds ≡ cs → st' ≡ st → query_at code (get_or st (2 * i) 0) ≡ binding (get_or st (2 * i) 0) b p (query_at code (body_of b)) → body_of b < get_or st (2 * i) 0 → variable_of b ≤ 63
-      → Leaves code ws us cs ds count at st st' i (Leaving.Binds b)
+      → Turns D code ws us cs ds count s n k at st st' i r t
 
 -- WHAT THE WALK LEAVES: what the query's walk leaves in every scope that this one shows
-pub record Typed (D : Defs) (ws us cs ds : List ℕ) (count : ℕ) (q : Query) (s : Scope) (made : Made) : Type 0 where
+pub record Typed (D : Defs) (ws us cs ds : List ℕ) (count : ℕ) (q : Query) (s : Scope) (made : Result Made Refusal) : Type 0 where
   pub is : (g : Typing.Scope) → Shows s g → Left D ws us cs ds made (walked (type_capacity (length ws)) D q g (table_of ws count))

@@ -12,8 +12,7 @@ use lib.ListN.{length, get_or, set}
 use lib.Seq.{get_or-set_same, get_or-set_other}
 use Rattle.meaning.specs.Base.{first, later, count, concat_map}
 use Rattle.meaning.proofs.Lists.{in_cons, in_none}
-use Rattle.uses.specs.Counts.{uses_in, Room, Counted}
-use Rattle.uses.specs.declared.Uses.{Uses}
+use Rattle.uses.specs.Counts.{Room, Counted}
 
 pub count_append : (q : ℕ) (ps qs : List ℕ) → count q (ps ++ qs) ≡ count q ps + count q qs
 unfolding count
@@ -56,28 +55,22 @@ counted_one t x l = record { is = λ q. go q (ℕ_discrete q x) }
 pub counted_both : {t u w ps qs : List ℕ} → Counted t ps u → Counted u qs w → Counted t (ps ++ qs) w
 counted_both {t} {u} {w} {ps} {qs} h k = record { is = λ q. omega (arith, h.is q, k.is q, count_append q ps qs) }
 
--- WHAT A NODE NAMES: room for the first, and for the second when the first has been counted
-pub room_one : {t : List ℕ} {n : Uses} {q : ℕ} → n ≡ Uses.One q → Room t (uses_in n) → Room t (q ∷ [])
-room_one e r = rw e at r
-
-pub room_first : {t : List ℕ} {n : Uses} {p q : ℕ} → n ≡ Uses.Two p q → Room t (uses_in n) → Room t (p ∷ [])
-room_first {t} {n} {p} {q} e h =
-    let r : Room t (p ∷ q ∷ []) = rw e at h in
+-- WHAT A NODE NAMES, none or two nodes: room for the first, and for the second when the first has been counted
+pub room_first : {t qs : List ℕ} {p q : ℕ} → (p ∷ q ∷ []) ≡ qs → Room t qs → Room t (p ∷ [])
+room_first {t} {qs} {p} {q} e h =
+    let r : Room t (p ∷ q ∷ []) = rw (← e) at h in
     record { inside = in_cons {P = λ i. i < length t} (r.inside p first) (λ i. in_none); fits = λ i. omega (arith, r.fits i) }
 
-pub room_second : {t u : List ℕ} {n : Uses} {p q : ℕ} → n ≡ Uses.Two p q → Room t (uses_in n) → length u ≡ length t → Counted t (p ∷ []) u → Room u (q ∷ [])
-room_second {t} {u} {n} {p} {q} e h l c =
-    let r : Room t (p ∷ q ∷ []) = rw e at h in
+pub room_second : {t u qs : List ℕ} {p q : ℕ} → (p ∷ q ∷ []) ≡ qs → Room t qs → length u ≡ length t → Counted t (p ∷ []) u → Room u (q ∷ [])
+room_second {t} {u} {qs} {p} {q} e h l c =
+    let r : Room t (p ∷ q ∷ []) = rw (← e) at h in
     record {
       inside = in_cons {P = λ i. i < length u} (rw l (r.inside q (later first))) (λ i. in_none);
       fits = λ i. omega (arith, r.fits i, c.is i, count_most i (p ∷ []));
     }
 
-pub named_none : {t : List ℕ} {n : Uses} → n ≡ Uses.None → Counted t (uses_in n) t
-named_none {t} e = rw e (counted_none t)
+pub named_none : {t qs : List ℕ} → [] ≡ qs → Counted t qs t
+named_none {t} e = rw (← e) (counted_none t)
 
-pub named_one : {t u : List ℕ} {n : Uses} {q : ℕ} → n ≡ Uses.One q → Counted t (q ∷ []) u → Counted t (uses_in n) u
-named_one e h = rw e h
-
-pub named_two : {t u w : List ℕ} {n : Uses} {p q : ℕ} → n ≡ Uses.Two p q → Counted t (p ∷ []) u → Counted u (q ∷ []) w → Counted t (uses_in n) w
-named_two e h k = rw e (counted_both h k)
+pub named_two : {t u w qs : List ℕ} {p q : ℕ} → (p ∷ q ∷ []) ≡ qs → Counted t (p ∷ []) u → Counted u (q ∷ []) w → Counted t qs w
+named_two e h k = rw (← e) (counted_both h k)

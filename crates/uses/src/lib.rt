@@ -2,143 +2,103 @@
 // the lowest node.
 #![tactic(auto)]
 
-ghost use Rattle.std.specs.Prelude.{◌≡◌, not, [], ◌∷◌, ◌*◌, ◌-◌, ◌≤◌, ◌<◌, eqb, length, get_or};
-ghost use Rattle.meaning.specs.Base.{lowest, zeros, code_width};
+ghost use Rattle.std.specs.Prelude.{◌≡◌, not, [], ◌∷◌, ◌-◌, ◌≤◌, eqb, length, get_or};
+ghost use Rattle.meaning.specs.Base.{lowest, zeros};
 ghost use Rattle.meaning.specs.Records.{node};
 ghost use Rattle.meaning.specs.Checks.{has_root, uses_of, uses, misused};
-ghost use Rattle.words.specs.Tables.{code_of};
 ghost use Rattle.words.specs.Says.{found};
-ghost use Rattle.uses.specs.Counts.{uses_in, Room, Counted, Coded};
+ghost use Rattle.uses.specs.Counts.{Room, Counted, Lowers};
+
+use tables::Nodes;
+use words::Node;
 
 // 8: there is a query record, and the last is no condition.
-pub fn has_root(code: &[u16], nodes: usize) -> bool
-    requires { code_width * nodes ≤ length code.now }
-    ensures { result ≡ has_root (code_of code.now nodes) }
+pub fn has_root(code: &Nodes) -> bool
+    ensures { result ≡ has_root code.now }
 {
+    let nodes = code.len();
     if nodes == 0 {
         return false;
     }
-    let root = words::read_node(code, nodes - 1);
+    let root = code.get(nodes - 1);
     !words::is_condition(root.kind)
 }
 
-// The nodes that a node names: none, one or two.
-#[derive(Drop)]
-enum Uses {
-    None,
-    One(u16),
-    Two(u16, u16),
-}
-
-// The nodes that the fields of a kind name.
-fn uses_of(kind: u16, a: u16, b: u16, c: u16) -> Uses
-    ensures { uses_in result ≡ uses_of (node kind a b c) }
-{
-    match kind {
-        34 => Uses::One(b),
-        35 => Uses::Two(a, b),
-        39 => Uses::Two(b, c),
-        40 => Uses::Two(b, c),
-        41 => Uses::Two(a, b),
-        52 => Uses::Two(a, b),
-        53 => Uses::One(a),
-        _ => Uses::None,
-    }
-}
-
 // One use more of a node.
-fn bump(counts: &mut [u16], q: u16)
+fn count(counts: &mut [u16], q: u16)
     requires { Room counts.old (q ∷ []) }
     ensures { Counted counts.old (q ∷ []) counts.new }
 {
-    let at = q as usize;
-    counts[at] = counts[at] + 1;
+    counts[usize::from(q)] += 1;
 }
 
-// One use more of each node that a node names.
-fn count_node(named: Uses, counts: &mut [u16])
-    requires { Room counts.old (uses_in named) }
-    ensures { Counted counts.old (uses_in named) counts.new }
+// One use more of each node that the fields of a node name, by its kind.
+#[tactic(auto, unfolding(meaning::specs::Base::find, meaning::specs::Records::forms, meaning::specs::Checks::named))]
+fn count_node(x: Node, counts: &mut [u16])
+    requires { Room counts.old (uses_of (node x.kind x.a x.b x.c)) }
+    ensures { Counted counts.old (uses_of (node x.kind x.a x.b x.c)) counts.new }
 {
-    match named {
-        Uses::None => {}
-        Uses::One(q) => {
-            bump(counts, q);
+    match x.kind {
+        34 => count(counts, x.b),
+        35 | 41 | 52 => {
+            count(counts, x.a);
+            count(counts, x.b);
         }
-        Uses::Two(p, q) => {
-            bump(counts, p);
-            bump(counts, q);
+        39 | 40 => {
+            count(counts, x.b);
+            count(counts, x.c);
         }
+        53 => count(counts, x.a),
+        _ => {}
     }
 }
 
 // The uses that all nodes make.
-fn count_all(code: &[u16], nodes: usize, counts: &mut [u16])
-    requires fact_1 { Coded code.now nodes }
-    requires fact_2 { nodes ≤ length counts.old }
-    requires fact_3 { counts.old ≡ zeros (length counts.old) }
-    ensures { Counted counts.old (uses (code_of code.now nodes)) counts.new }
+fn count_all(code: &Nodes, counts: &mut [u16])
+    requires lowers { Lowers code.now }
+    requires room { length code.now ≤ length counts.old }
+    requires zero { counts.old ≡ zeros (length counts.old) }
+    ensures { Counted counts.old (uses code.now) counts.new }
 {
-    let mut i = 0;
-    while i < nodes {
-        let x = words::read_node(code, i);
-        let named = uses_of(x.kind, x.a, x.b, x.c);
-        count_node(named, counts);
-        i += 1;
+    for i in 0..code.len() {
+        count_node(code.get(i), counts);
     }
 }
 
-// The lowest of the nodes but the last that is not counted exactly once.
-fn lowest_misuse(counts: &[u16], nodes: usize) -> words::Found
+// The lowest of the first nodes that is not counted exactly once.
+fn lowest_misuse(counts: &[u16], nodes: usize) -> Option<usize>
     requires { nodes ≤ length counts.now }
-    ensures { found result ≡ lowest (λ q. not (eqb (get_or counts.now q 0) 1)) (nodes - 1) }
+    ensures { found result ≡ lowest (λ q. not (eqb (get_or counts.now q 0) 1)) nodes }
 {
-    let mut q = 0;
-    while q + 1 < nodes {
+    for q in 0..nodes {
         let misused = counts[q] != 1;
         if misused {
-            return words::Found::At(q);
+            return Some(q);
         }
-        q += 1;
     }
-    words::Found::Nowhere
+    None
 }
 
-// 12: the lowest node but the root that is not used exactly once. `uses` has room for a count of each node.
-fn misuse_within(code: &[u16], nodes: usize, uses: &mut [u16]) -> words::Found
-    requires fact_1 { Coded code.now nodes }
-    requires fact_2 { nodes ≤ length uses.old }
-    ensures { found result ≡ lowest (misused (code_of code.now nodes)) (nodes - 1) }
+// The lowest node but the root that is not used exactly once, with counts for so many nodes: clearing them is most of what a small query costs.
+fn misuse_of<const N: usize>(code: &Nodes) -> Option<usize>
+    requires lowers { Lowers code.now }
+    requires few { length code.now ≤ N }
+    requires most { N ≤ 1024 }
+    ensures { found result ≡ lowest (misused code.now) (length code.now - 1) }
 {
-    words::clear(uses);
-    count_all(code, nodes, uses);
-    lowest_misuse(uses, nodes)
+    let mut counts = [0u16; N];
+    count_all(code, &mut counts);
+    lowest_misuse(&counts, code.len().saturating_sub(1))
 }
 
-// The same with counts for 128 nodes, and for 1,024: clearing them is most of what a small query costs.
-fn misuse_of_few(code: &[u16], nodes: usize) -> words::Found
-    requires { (Coded code.now nodes) × (nodes ≤ 128) }
-    ensures { found result ≡ lowest (misused (code_of code.now nodes)) (nodes - 1) }
+// 12, with as many counts as the query needs.
+pub fn misuse(code: &Nodes) -> Option<usize>
+    requires { Lowers code.now }
+    ensures { found result ≡ lowest (misused code.now) (length code.now - 1) }
 {
-    let mut uses = [0u16; 128];
-    misuse_within(code, nodes, &mut uses)
-}
-
-fn misuse_of_many(code: &[u16], nodes: usize) -> words::Found
-    requires { Coded code.now nodes }
-    ensures { found result ≡ lowest (misused (code_of code.now nodes)) (nodes - 1) }
-{
-    let mut uses = [0u16; 1024];
-    misuse_within(code, nodes, &mut uses)
-}
-
-// The same, with as many counts as the query needs.
-pub fn misuse(code: &[u16], nodes: usize) -> words::Found
-    requires { Coded code.now nodes }
-    ensures { found result ≡ lowest (misused (code_of code.now nodes)) (nodes - 1) }
-{
+    let nodes = code.len();
     if nodes <= 128 {
-        return misuse_of_few(code, nodes);
+        return misuse_of::<128>(code);
     }
-    misuse_of_many(code, nodes)
+    misuse_of::<1024>(code)
 }

@@ -4,15 +4,16 @@ use mathlib.Core.Path.{◌≡◌, refl, sym, ap, ◌∙◌, subst}
 use mathlib.Core.List.{List, [], ◌∷◌, ◌++◌, append-nil}
 use Prim.Native.Nat.{ℕ, zero, suc, ◌+◌, ◌*◌, ◌-◌, ◌≤◌, ◌<◌}
 use native.Mathlib.Omega.{arith}
-use lib.ListN.{length, get_or, set, length-set, length-append}
+use lib.ListN.{length, get_or, set, length-set}
 use lib.Seq.{get_or-set_same, get_or-set_other}
 use Rattle.meaning.specs.Base.{Out, ok, refused, ◌>>=◌}
 use Rattle.meaning.specs.Forests.{forest_words}
 use Rattle.meaning.specs.Records.{Record, field}
 use Rattle.meaning.specs.Values.{Part, read_forest}
-use Rattle.words.specs.declared.Found.{Found}
-use Rattle.values.specs.declared.Due.{Due}
-use Rattle.values.specs.declared.Went.{Went}
+use Rattle.std.specs.Prelude as Std
+use Rattle.refusals.specs.declared.Refusal.{Refusal}
+use Rattle.refusals.specs.Says.{number_of}
+use Rattle.values.specs.declared.Kept.{Kept}
 use Rattle.values.specs.declared.Line.{Line}
 use Rattle.values.specs.Says.{Shows, Stands, entry_at, words_of, Deep, whole, short, Adds, Reads, wrong, reached}
 use Rattle.values.proofs.Standing.{refuses, seen}
@@ -54,17 +55,16 @@ deep_kept : {s : List ℕ} {m k : ℕ} → k ≡ m → Deep s m → Deep s k
 deep_kept {s} q h = subst (Deep s) (sym q) h
 
 -- THE INVARIANT: what was read so far, its words and places; what is pending
-pub record Going (s : List ℕ) (start n room tw first : ℕ) (w : List ℕ) (before : Found) (t u : List ℕ) (d at e : ℕ) (full : Found) : Type 0 where
+pub record Going (s : List ℕ) (start n tw : ℕ) (w : List ℕ) (k : Kept) (t u : List ℕ) (d at : ℕ) (l : Kept) : Type 0 where
   pub words : List ℕ
   pub places : List ℕ
   pub deep : Deep s (length t)
-  pub spaced : 4 * e ≤ at + 4 * first
+  pub spaced : 4 * l.entries ≤ at + 4 * k.entries
   pub within : at ≤ length s
-  pub shallow : first + d ≤ e + 1
-  pub counted : e ≡ first + length places
-  pub rest : e + total (pending t d) ≡ first + n
+  pub shallow : k.entries + d ≤ l.entries + 1
+  pub rest : l.entries + total (pending t d) ≡ k.entries + n
   pub reads : follow s start (n ∷ []) ≡ past words places (follow s at (pending t d))
-  pub adds : Adds room tw first w before u full words places
+  pub adds : Adds tw w k u l words places
 
 abbrev pub run_of : Part → Run
 run_of p = record { words = forest_words p.forest; places = p.places; next = p.next }
@@ -74,21 +74,20 @@ read_refused : {o : Out Part} {k place : ℕ} → (o >>= λ p. ok (run_of p)) �
 read_refused {o = ok p} e = absurd_out (sym e)
 read_refused {o = refused j q} {k} {place} e = let a : j ≡ k = cc in let b : q ≡ place = cc in λ i. refused (a i) (b i)
 
-module _ {room tw first : ℕ} {w u : List ℕ} {before full : Found} where
-  read_run : (o : Out Part) (r : Run) → (o >>= λ p. ok (run_of p)) ≡ ok r → Adds room tw first w before u full r.words r.places → Reads room tw first w before u o (Went.To r.next full)
+module _ {tw : ℕ} {w u : List ℕ} {k l : Kept} where
+  read_run : (o : Out Part) (r : Run) → (o >>= λ p. ok (run_of p)) ≡ ok r → Adds tw w k u l r.words r.places → Reads tw w k u l o (Std.Ok r.next)
   read_run (ok p) r e a =
       let q : run_of p ≡ r = cc in
-      subst (λ (x : ℕ). Reads room tw first w before u (ok p) (Went.To x full)) (ap (λ (x : Run). x.next) q)
-      (reached p refl (rw (ap (λ (x : Run). x.words) q, ap (λ (x : Run). x.places) q) a))
-  read_run (refused k q) r e a = absurd_out e
+      reached p refl (sym (ap (λ (x : Run). x.next) q)) (rw (ap (λ (x : Run). x.words) q, ap (λ (x : Run). x.places) q) a)
+  read_run (refused j q) r e a = absurd_out e
 
 pending_top : (t : List ℕ) (d : ℕ) → 0 < d → pending t d ≡ get_or t (d - 1) 0 ∷ pending t (d - 1)
 unfolding pending
 pending_top t zero h = absurd (omega arith)
 pending_top t (suc d) h = let z : suc d - 1 ≡ d = omega arith in rw z refl
 
-module _ (s : List ℕ) (start n : ℕ) {room tw first : ℕ} {w : List ℕ} {before : Found} where
-  pub going_starts : (t : List ℕ) → Deep s (length t) → start ≤ length s → Going s start n room tw first w before (set t 0 n) w 1 start first before
+module _ (s : List ℕ) (start n : ℕ) {tw : ℕ} {w : List ℕ} {k : Kept} where
+  pub going_starts : (t : List ℕ) → Deep s (length t) → start ≤ length s → Going s start n tw w k (set t 0 n) w 1 start k
   unfolding pending total
   going_starts t deep low =
       let z : get_or (set t 0 n) 0 0 ≡ n = get_or-set_same t 0 n 0 (deep_some deep) in
@@ -99,26 +98,14 @@ module _ (s : List ℕ) (start n : ℕ) {room tw first : ℕ} {w : List ℕ} {be
         spaced = omega arith;
         within = low;
         shallow = omega arith;
-        counted = omega arith;
         rest = rw z (omega arith);
         reads = rw z (sym (past_none (follow s start (n ∷ []))));
         adds = adds_none;
       }
 
-  module _ {t u : List ℕ} {d at e : ℕ} {full : Found} (g : Going s start n room tw first w before t u d at e full) where
-    -- each open stretch has a record that opened it
-    pub depth_in : d ≤ n + 1
-    depth_in = omega (arith, g.shallow, g.rest)
-
-    pub depth_low : n ≤ 65535 → 0 < d → d - 1 < length t
-    depth_low h l = go g.deep
-      where
-        go : Deep s (length t) → d - 1 < length t
-        go (whole k) = omega (arith, depth_in)
-        go (short k) = omega (arith, g.shallow, g.spaced, g.within)
-
+  module _ {t u : List ℕ} {d at : ℕ} {l : Kept} (g : Going s start n tw w k t u d at l) where
     -- NOTHING IS PENDING
-    pub going_ends : d ≤ 0 → Reads room tw first w before u (read_forest n s start n) (Went.To at full)
+    pub going_ends : d ≤ 0 → Reads tw w k u l (read_forest n s start n) (Std.Ok at)
     unfolding pending follow
     going_ends h =
         let z : d ≡ 0 = omega arith in
@@ -130,7 +117,7 @@ module _ (s : List ℕ) (start n : ℕ) {room tw first : ℕ} {w : List ℕ} {be
 
     module _ (some : 0 < d) where
       -- A FOREST IS DONE
-      pub going_down : get_or t (d - 1) 0 ≡ 0 → Going s start n room tw first w before t u (d - 1) at e full
+      pub going_down : get_or t (d - 1) 0 ≡ 0 → Going s start n tw w k t u (d - 1) at l
       unfolding total
       going_down z =
           let q : pending t d ≡ 0 ∷ pending t (d - 1) = pending_top t d some ∙ ap (λ (x : ℕ). x ∷ pending t (d - 1)) z in
@@ -141,7 +128,6 @@ module _ (s : List ℕ) (start n : ℕ) {room tw first : ℕ} {w : List ℕ} {be
             spaced = g.spaced;
             within = g.within;
             shallow = omega (arith, g.shallow);
-            counted = g.counted;
             rest = omega (arith, g.rest, ap total q);
             reads = g.reads ∙ ap (λ (ns : List ℕ). past g.words g.places (follow s at ns)) q ∙ ap (past g.words g.places) (follow_done s at (pending t (d - 1)));
             adds = g.adds;
@@ -152,7 +138,7 @@ module _ (s : List ℕ) (start n : ℕ) {room tw first : ℕ} {w : List ℕ} {be
         now_pending : pending t d ≡ suc (left - 1) ∷ pending t (d - 1)
         now_pending = let z : get_or t (d - 1) 0 ≡ suc (left - 1) = omega arith in pending_top t d some ∙ ap (λ (x : ℕ). x ∷ pending t (d - 1)) z
 
-        pub not_all : e < first + n
+        pub not_all : l.entries < k.entries + n
         unfolding total
         not_all = omega (arith, g.rest, ap total now_pending)
 
@@ -160,8 +146,8 @@ module _ (s : List ℕ) (start n : ℕ) {room tw first : ℕ} {w : List ℕ} {be
         room_above h x = go g.deep
           where
             go : Deep s (length t) → d < length (set t (d - 1) x)
-            go (whole l) = omega (arith, g.shallow, not_all, length-set t (d - 1) x)
-            go (short l) = omega (arith, g.shallow, g.spaced, g.within, length-set t (d - 1) x)
+            go (whole m) = omega (arith, g.shallow, not_all, length-set t (d - 1) x)
+            go (short m) = omega (arith, g.shallow, g.spaced, g.within, length-set t (d - 1) x)
 
         onward : follow s start (n ∷ []) ≡ past g.words g.places (entry_at s at (left - 1) >>= λ r. past (row_of r) (at ∷ []) (follow s r.next (field r 1 ∷ (left - 1 - field r 1) ∷ pending t (d - 1))))
         onward =
@@ -169,29 +155,29 @@ module _ (s : List ℕ) (start n : ℕ) {room tw first : ℕ} {w : List ℕ} {be
             ∙ ap (λ (ns : List ℕ). past g.words g.places (follow s at ns)) now_pending
             ∙ ap (past g.words g.places) (follow_step s at (left - 1) (pending t (d - 1)))
 
-        pub going_wrong : {due : Due} {place : ℕ} → Stands (entry_at s at (left - 1)) due → due ≡ Due.Wrong place → {v : List ℕ} → Reads room tw first w before v (read_forest n s start n) (Went.Wrong place)
-        going_wrong {place = place} st q =
-            let z : follow s start (n ∷ []) ≡ refused 18 place =
-            onward ∙ ap (λ (o : Out Record). past g.words g.places (o >>= λ r. past (row_of r) (at ∷ []) (follow s r.next (field r 1 ∷ (left - 1 - field r 1) ∷ pending t (d - 1))))) (refuses st q) in
+        pub going_wrong : {r : Refusal} → Stands (entry_at s at (left - 1)) (Std.Err r) → {v : List ℕ} {m : Kept} → Reads tw w k v m (read_forest n s start n) (Std.Err r)
+        going_wrong {r} st =
+            let z : follow s start (n ∷ []) ≡ refused (number_of r.reason) r.place =
+            onward ∙ ap (λ (o : Out Record). past g.words g.places (o >>= λ r. past (row_of r) (at ∷ []) (follow s r.next (field r 1 ∷ (left - 1 - field r 1) ∷ pending t (d - 1))))) (refuses st) in
             wrong (read_refused (sym (follow_one s start n) ∙ z))
 
-        module _ {due : Due} {i : Line} (st : Stands (entry_at s at (left - 1)) due) (q : due ≡ Due.There i) where
+        module _ {i : Line} (st : Stands (entry_at s at (left - 1)) (Std.Ok i)) where
           abbrev line : Record
-          line = (seen st q).line
+          line = (seen st).line
 
           shows : Shows i line
-          shows = (seen st q).shows
+          shows = (seen st).shows
 
           line_in : Entered s at (left - 1) line
-          line_in = entered s at (left - 1) (seen st q).is
+          line_in = entered s at (left - 1) (seen st).is
 
           pub inside_low : i.b ≤ left - 1
           inside_low = omega (arith, line_in.inside, shows.b)
 
-          pub going_on : n ≤ 65535 → {tu : ℕ} → tu ≡ tw → {v : List ℕ} {over : Found} → Adds room tu e u full v over (words_of i) (at ∷ [])
-              → Going s start n room tw first w before (set (set t (d - 1) (left - 1 - i.b)) d i.b) v (d + 1) i.next (e + 1) over
+          pub going_on : n ≤ 65535 → {tu : ℕ} → tu ≡ tw → {v : List ℕ} {m : Kept} → Adds tu u l v m (words_of i) (at ∷ [])
+              → Going s start n tw w k (set (set t (d - 1) (left - 1 - i.b)) d i.b) v (d + 1) i.next m
           unfolding total
-          going_on h {tu} same {v} {over} a =
+          going_on h {tu} same {v} {m} a =
               let b = inside_low in
               let z : d ≡ d - 1 + 1 = omega arith in
               let y : d + 1 ≡ suc (suc (d - 1)) = omega arith in
@@ -204,15 +190,14 @@ module _ (s : List ℕ) (start n : ℕ) {room tw first : ℕ} {w : List ℕ} {be
                 words = g.words ++ words_of i;
                 places = g.places ++ (at ∷ []);
                 deep = deep_kept (length-set (set t (d - 1) (left - 1 - i.b)) d i.b ∙ length-set t (d - 1) (left - 1 - i.b)) g.deep;
-                spaced = omega (arith, g.spaced, line_in.read.past, shows.next);
+                spaced = omega (arith, g.spaced, line_in.read.past, shows.next, a.more);
                 within = omega (arith, line_in.read.within, shows.next);
-                shallow = omega (arith, g.shallow);
-                counted = omega (arith, g.counted, length-append g.places (at ∷ []));
-                rest = omega (arith, g.rest, ap total p, ap total now_pending);
+                shallow = omega (arith, g.shallow, a.more);
+                rest = omega (arith, g.rest, ap total p, ap total now_pending, a.more);
                 reads =
                     onward
-                    ∙ ap (λ (o : Out Record). past g.words g.places (o >>= λ r. past (row_of r) (at ∷ []) (follow s r.next (field r 1 ∷ (left - 1 - field r 1) ∷ ns)))) (seen st q).is
+                    ∙ ap (λ (o : Out Record). past g.words g.places (o >>= λ r. past (row_of r) (at ∷ []) (follow s r.next (field r 1 ∷ (left - 1 - field r 1) ∷ ns)))) (seen st).is
                     ∙ rw (← shows.kind, ← shows.a, ← shows.b, ← shows.next) (past_past g.words (words_of i) g.places (at ∷ []) (follow s i.next (i.b ∷ (left - 1 - i.b) ∷ ns)))
                     ∙ ap (λ (ms : List ℕ). past (g.words ++ words_of i) (g.places ++ (at ∷ [])) (follow s i.next ms)) (sym p);
-                adds = adds_both g.adds e g.counted (rw same at a);
+                adds = adds_both g.adds (rw same at a);
               }

@@ -18,10 +18,12 @@ use Rattle.meaning.proofs.Lists.{absurd_option, at_low}
 use Rattle.meaning.proofs.Ends.{ends_ok}
 use Rattle.meaning.proofs.Forests.{size_join, words_join, length_words}
 use Rattle.meaning.proofs.Values.{forest_ends}
-use Rattle.values.specs.declared.Answer.TheVariants as Answer
+use Rattle.std.specs.Prelude as Std
+use Rattle.refusals.specs.declared.Refusal.{Refusal}
+use Rattle.refusals.specs.Says.{number_of}
 use Rattle.values.specs.declared.Loaded.{Loaded}
 use Rattle.values.specs.Says.{ends_from, ends_of, loaded_of, Left}
-use Rattle.values.proofs.Stepping.{bound, tested_ok}
+use Rattle.values.proofs.Stepping.{bound, tested_ok, absurd_out}
 use Rattle.values.proofs.Scanning.{ends_length}
 
 -- where the entries of the i-th variable begin, by the ends
@@ -72,35 +74,32 @@ start_padded n es zero h = (get_or-append es (zeros (n - length es)) 0 0 h, refl
 start_padded n es (suc i) h = (get_or-append es (zeros (n - length es)) 0 (suc i) h, get_or-append es (zeros (n - length es)) 0 i (omega arith))
 
 -- WHAT AN ANSWER TELLS: the values that were loaded, or the refusal
-pub record Accepts (tw n : ℕ) (r : Loaded) (w : List ℕ) (o : Out (List Value)) : Type 0 where
+pub record Accepts (tw : ℕ) (r : Loaded) (w : List ℕ) (o : Out (List Value)) : Type 0 where
   pub values : List Value
   pub is : o ≡ ok values
-  pub entries : n ≡ size (joined values)
-  pub left : Left tw r w (ok values)
+  pub entries : r.entries ≡ size (joined values)
+  pub left : Left tw (Std.Ok r) w (ok values)
 
-module _ {tw : ℕ} {r : Loaded} {w : List ℕ} where
-  pub accepted : (o : Out (List Value)) {n : ℕ} → Left tw r w o → r.answer ≡ Answer.Values n → Accepts tw n r w o
+module _ {tw : ℕ} {w : List ℕ} where
+  pub accepted : (o : Out (List Value)) {r : Loaded} → Left tw (Std.Ok r) w o → Accepts tw r w o
   unfolding loaded_of
-  accepted (ok vs) {n} left q =
-      let z : Answer.Values n ≡ Answer.Values (size (joined vs)) = sym q ∙ ap (λ (x : Loaded). x.answer) left.answer in
-      record { values = vs; is = refl; entries = cc; left = left }
-  accepted (refused k p) {n} left q = let z : Answer.Values n ≡ Answer.Refused k p = sym q ∙ ap (λ (x : Loaded). x.answer) left.answer in let y : ◌≡◌ {A = ℕ} 0 1 = cc in absurd (omega arith)
+  accepted (ok vs) {r} left = record { values = vs; is = refl; entries = let z : r ≡ loaded_of vs = let y = left.answer in cc in ap (λ (x : Loaded). x.entries) z; left = left }
+  accepted (refused k p) left = absurd_out (sym left.answer)
 
-  pub turned_away : (o : Out (List Value)) {k place : ℕ} → Left tw r w o → r.answer ≡ Answer.Refused k place → (o ≡ refused k place) × (w ≡ zeros tw)
-  unfolding loaded_of
-  turned_away (ok vs) {k} {place} left q = let z : Answer.Refused k place ≡ Answer.Values (size (joined vs)) = sym q ∙ ap (λ (x : Loaded). x.answer) left.answer in let y : ◌≡◌ {A = ℕ} 0 1 = cc in absurd (omega arith)
-  turned_away (refused j p) {k} {place} left q =
-      let z : Answer.Refused k place ≡ Answer.Refused j p = sym q ∙ ap (λ (x : Loaded). x.answer) left.answer in
-      let a : j ≡ k = cc in
-      let b : p ≡ place = cc in
+  pub turned_away : (o : Out (List Value)) {e : Refusal} → Left tw (Std.Err e) w o → (o ≡ refused (number_of e.reason) e.place) × (w ≡ zeros tw)
+  turned_away (ok vs) left = absurd_out left.answer
+  turned_away (refused j p) {e} left =
+      let a : j ≡ number_of e.reason = let y = left.answer in cc in
+      let b : p ≡ e.place = let y = left.answer in cc in
       ((λ i. refused (a i) (b i)), left.work)
 
 -- AFTER AN ACCEPTED LOAD
-pub held : {tw : ℕ} {r : Loaded} {w : List ℕ} {vs : List Value} → Left tw r w (ok vs) → (i : ℕ) (v : Value) → At vs i v → Held r.ends w i v.part.forest
+pub held : {tw : ℕ} {r : Loaded} {w : List ℕ} {vs : List Value} → Left tw (Std.Ok r) w (ok vs) → (i : ℕ) (v : Value) → At vs i v → Held r.ends w i v.part.forest
 unfolding loaded_of
 held {tw} {r} {w} {vs} left i v a =
     let h = held_from 0 vs [] (zeros (tw - length (forest_words (joined vs)))) w (omega arith) left.work i v a in
-    let e : r.ends ≡ padded 16 (ends_of vs) = ap (λ (x : Loaded). x.ends) left.answer in
+    let z : r ≡ loaded_of vs = let y = left.answer in cc in
+    let e : r.ends ≡ padded 16 (ends_of vs) = ap (λ (x : Loaded). x.ends) z in
     let p = start_padded 16 (ends_of vs) i (omega (arith, at_low a, ends_length 0 vs)) in
     rw e (record { end_is = rw (p.0, p.1) h.end_is; within = rw p.0 h.within; words = rw p.1 h.words })
 

@@ -2,7 +2,7 @@
 -- Assumes nothing.
 use mathlib.Core.Path.{◌≡◌, refl, sym, ap, ◌∙◌, subst}
 use mathlib.Core.Bool.{Bool, true, false}
-use mathlib.Core.List.{List, []}
+use mathlib.Core.List.{List}
 use mathlib.Core.Option.{Option, none, some}
 use Prim.Native.Nat.{ℕ, ◌*◌, ◌≤◌}
 use native.Mathlib.Omega.{arith}
@@ -15,13 +15,14 @@ use Rattle.meaning.specs.Records.{Var}
 use Rattle.meaning.specs.Values.{Value, read_values, odd, entry_places, fitting, load_values, joined}
 use Rattle.meaning.proofs.Lists.{absurd_option}
 use Rattle.meaning.proofs.Forests.{length_words}
+use Rattle.std.specs.Prelude as Std
+use Rattle.refusals.specs.declared.Refusal.{Refusal}
+use Rattle.refusals.specs.Says.{number_of}
 use Rattle.words.specs.Says.{found}
 use Rattle.values.specs.declared.Scan.{Scan}
-use Rattle.values.specs.declared.Verdict.{Verdict}
-use Rattle.values.specs.declared.Answer.TheVariants as Answer
 use Rattle.values.specs.declared.Loaded.{Loaded}
 use Rattle.values.specs.Says as Says
-use Rattle.values.specs.Says.{loaded_of, Left, overfull, Deep, Blank, Scans, in_turn, verdict, Fitting, Settles}
+use Rattle.values.specs.Says.{loaded_of, Left, overfull, Deep, Blank, Scans, judged, Fitting, Settles}
 use Rattle.values.proofs.Stepping.{absurd_out}
 
 -- room for all of them
@@ -41,13 +42,17 @@ overfull_low room ps e = go (leb (length ps) room) refl e
     go true q e = leb-true (length ps) room q
     go false q e = absurd_option (sym e)
 
+-- 19 and 20 in turn
+abbrev in_turn : Option ℕ → Option ℕ → Out (Unit {0})
+in_turn b c = refuse_at 19 b >>= λ _. refuse_at 20 c
+
 -- the definition's refusals, of values that were read
 load_turn : (room : ℕ) (vars : List (ℕ × Var)) (s : List ℕ) (vs : List Value) → read_values vars s 0 ≡ ok vs
-    → load_values room vars s ≡ (in_turn 18 none 19 (odd vs) 20 (overfull room (entry_places vs)) >>= λ _. ok vs)
+    → load_values room vars s ≡ (in_turn (odd vs) (overfull room (entry_places vs)) >>= λ _. ok vs)
 unfolding load_values
 load_turn room vars s vs e = ap (λ (o : Out (List Value)). o >>= λ ws. refuse_at 19 (odd ws) >>= λ _. fitting room ws) e ∙ go (odd vs)
   where
-    go : (o : Option ℕ) → (refuse_at 19 o >>= λ _. fitting room vs) ≡ ((refuse_at 19 o >>= λ _. refuse_at 20 (overfull room (entry_places vs))) >>= λ _. ok vs)
+    go : (o : Option ℕ) → (refuse_at 19 o >>= λ _. fitting room vs) ≡ (in_turn o (overfull room (entry_places vs)) >>= λ _. ok vs)
     go none = fitting_turn room vs
     go (some p) = refl
 
@@ -55,66 +60,81 @@ load_wrong : (room : ℕ) (vars : List (ℕ × Var)) (s : List ℕ) {n p : ℕ} 
 unfolding load_values
 load_wrong room vars s e = ap (λ (o : Out (List Value)). o >>= λ ws. refuse_at 19 (odd ws) >>= λ _. fitting room ws) e
 
--- nothing was found
-none_found : (a b c : Option ℕ) → ok tt ≡ in_turn 18 a 19 b 20 c → (a ≡ none) × (b ≡ none) × (c ≡ none)
-none_found none none none e = (refl, refl, refl)
-none_found none none (some p) e = absurd_out (sym e)
-none_found none (some p) c e = absurd_out (sym e)
-none_found (some p) b c e = absurd_out (sym e)
+-- nothing was found, and so many entries were read
+record Passed (r : Std.Result Scan Refusal) (n : ℕ) : Type 0 where
+  scan : Scan
+  is : r ≡ Std.Ok scan
+  no_odd : found scan.odd ≡ none
+  no_full : found scan.kept.full ≡ none
+  entries : n ≡ scan.kept.entries
+
+passed : (r : Std.Result Scan Refusal) {n : ℕ} → ok n ≡ judged r → Passed r n
+passed (Std.Err e) q = absurd_out (sym q)
+passed (Std.Ok c) {n} q = go (found c.odd) (found c.kept.full) refl refl q
+  where
+    go : (a b : Option ℕ) → found c.odd ≡ a → found c.kept.full ≡ b → ok n ≡ (refuse_at 19 a >>= λ _. refuse_at 20 b >>= λ _. ok c.kept.entries) → Passed (Std.Ok c) n
+    go none none x y q = record { scan = c; is = refl; no_odd = x; no_full = y; entries = cc }
+    go none (some p) x y q = absurd_out (sym q)
+    go (some p) b x y q = absurd_out (sym q)
 
 -- the work table is cleared behind them
-module _ (c : Scan) {r : Verdict} (q : verdict r ≡ in_turn 18 (found c.wrong) 19 (found c.odd) 20 (found c.full)) where
-  all_none : r ≡ Verdict.Passed → (found c.wrong ≡ none) × (found c.odd ≡ none) × (found c.full ≡ none)
-  all_none e = none_found (found c.wrong) (found c.odd) (found c.full) (ap verdict (sym e) ∙ q)
+module _ (c : Std.Result Scan Refusal) where
+  pub passed_low : {n : ℕ} {w : List ℕ} → ok n ≡ judged c → Fitting c w → forest_width * n ≤ length w
+  passed_low q h = let p = passed c q in rw p.entries (h.low p.scan p.is p.no_full)
 
-  pub passed_low : {w : List ℕ} → r ≡ Verdict.Passed → Fitting c w → forest_width * c.entries ≤ length w
-  passed_low e h = h.low (all_none e).0 (all_none e).2
-
-  pub stays : {tw : ℕ} {ends w u : List ℕ} → r ≡ Verdict.Passed → tw ≡ length w → u ≡ padded (length w) (take (forest_width * c.entries) w) → Settles tw c ends w (record { answer = Answer.Values c.entries; ends = ends }) u
+  pub stays : {tw n : ℕ} {ends w u : List ℕ} → ok n ≡ judged c → tw ≡ length w → u ≡ padded (length w) (take (forest_width * n) w) → Settles tw c ends w (Std.Ok (record { entries = n; ends = ends })) u
   unfolding loaded_of
-  stays {tw} {ends} {w} {u} e lent kept = record { leaves = λ room vars s h. go room vars s h }
+  stays {tw} {n} {ends} {w} {u} q lent kept = record { leaves = λ room vars s h. go room vars s (subst (λ (r : Std.Result Scan Refusal). Scans room tw (read_values vars s 0) ends w r) p.is h) }
     where
-      go : (room : ℕ) (vars : List (ℕ × Var)) (s : List ℕ) → Scans room tw (read_values vars s 0) c ends w → Left tw (record { answer = Answer.Values c.entries; ends = ends }) u (load_values room vars s)
-      go room vars s (Says.wrong x f) = absurd_option (sym (all_none e).0 ∙ f)
-      go room vars s (Says.read vs x f o n k es) =
-          let none_odd : odd vs ≡ none = sym o ∙ (all_none e).1 in
-          let none_over : overfull room (entry_places vs) ≡ none = sym k.over ∙ (all_none e).2 in
+      p : Passed c n
+      p = passed c q
+
+      go : (room : ℕ) (vars : List (ℕ × Var)) (s : List ℕ) → Scans room tw (read_values vars s 0) ends w (Std.Ok p.scan) → Left tw (Std.Ok (record { entries = n; ends = ends })) u (load_values room vars s)
+      go room vars s (Says.read vs x o r k es) =
+          let none_odd : odd vs ≡ none = sym o ∙ p.no_odd in
+          let none_over : overfull room (entry_places vs) ≡ none = ap (λ (m : ℕ). overfull m (entry_places vs)) (sym r) ∙ sym k.over ∙ p.no_full in
           let low = overfull_low room (entry_places vs) none_over in
-          let z : load_values room vars s ≡ ok vs = load_turn room vars s vs x ∙ λ j. in_turn 18 none 19 (none_odd j) 20 (none_over j) >>= λ _. ok vs in
-          let sized : c.entries ≡ size (joined vs) = omega (arith, n, k.even, length_words (joined vs)) in
-          let many : forest_width * c.entries ≡ length (forest_words (joined vs)) = omega (arith, n, k.even) in
-          let front : take (forest_width * c.entries) w ≡ forest_words (joined vs) = ap (λ (m : ℕ). take m w) many ∙ k.front low in
-          rw z (record { answer = λ j. record { answer = Answer.Values (sized j); ends = es low j }; work = kept ∙ λ j. padded (sym lent j) (front j) })
+          let z : load_values room vars s ≡ ok vs = load_turn room vars s vs x ∙ λ j. in_turn (none_odd j) (none_over j) >>= λ _. ok vs in
+          let sized : n ≡ size (joined vs) = omega (arith, p.entries, k.count, k.even, length_words (joined vs)) in
+          let many : forest_width * n ≡ length (forest_words (joined vs)) = omega (arith, p.entries, k.count, k.even) in
+          let front : take (forest_width * n) w ≡ forest_words (joined vs) = ap (λ (m : ℕ). take m w) many ∙ k.front (omega (arith, low, r)) in
+          rw z (record { answer = λ j. ok (record { entries = sized j; ends = es low j }); work = kept ∙ λ j. padded (sym lent j) (front j) })
 
   -- it is cleared
-  pub goes : {tw n p : ℕ} {ends w u : List ℕ} → r ≡ Verdict.Refused n p → u ≡ zeros tw → Settles tw c ends w (record { answer = Answer.Refused n p; ends = zeros 16 }) u
-  unfolding loaded_of
-  goes {tw} {n} {p} {ends} {w} {u} e clear = record { leaves = λ room vars s h. go room vars s h }
+  pub goes : {tw : ℕ} {e : Refusal} {ends w u : List ℕ} → refused (number_of e.reason) e.place ≡ judged c → u ≡ zeros tw → Settles tw c ends w (Std.Err e) u
+  goes {tw} {e} {ends} {w} {u} q clear = record { leaves = λ room vars s h. go room vars s c h q }
     where
-      turn : (vs : List Value) → refused n p ≡ (in_turn 18 (found c.wrong) 19 (found c.odd) 20 (found c.full) >>= λ _. ok vs)
-      turn vs = ap (λ (o : Out (Unit {0})). o >>= λ _. ok vs) (ap verdict (sym e) ∙ q)
+      n : ℕ
+      n = number_of e.reason
 
-      left : (o : Out (List Value)) → refused n p ≡ o → Left tw (record { answer = Answer.Refused n p; ends = zeros 16 }) u o
+      left : (o : Out (List Value)) → refused n e.place ≡ o → Left tw (Std.Err e) u o
       left o z = rw (← z) (record { answer = refl; work = clear })
 
-      go : (room : ℕ) (vars : List (ℕ × Var)) (s : List ℕ) → Scans room tw (read_values vars s 0) c ends w → Left tw (record { answer = Answer.Refused n p; ends = zeros 16 }) u (load_values room vars s)
-      go room vars s (Says.wrong x f) =
-          left (load_values room vars s) (turn [] ∙ ap (λ (a : Option ℕ). in_turn 18 a 19 (found c.odd) 20 (found c.full) >>= λ _. ok []) f ∙ sym (load_wrong room vars s x))
-      go room vars s (Says.read vs x f o m k es) =
-          left (load_values room vars s) (turn vs ∙ (λ j. in_turn 18 (f j) 19 (o j) 20 (k.over j) >>= λ _. ok vs) ∙ sym (load_turn room vars s vs x))
+      behind : (vs : List Value) (c : Scan) → refused n e.place ≡ judged (Std.Ok c) → refused n e.place ≡ (in_turn (found c.odd) (found c.kept.full) >>= λ _. ok vs)
+      behind vs c q = turn (found c.odd) (found c.kept.full) q
+        where
+          turn : (a b : Option ℕ) → refused n e.place ≡ (refuse_at 19 a >>= λ _. refuse_at 20 b >>= λ _. ok c.kept.entries) → refused n e.place ≡ (in_turn a b >>= λ _. ok vs)
+          turn none none q = absurd_out q
+          turn none (some p) q = cc
+          turn (some p) b q = cc
+
+      go : (room : ℕ) (vars : List (ℕ × Var)) (s : List ℕ) (r : Std.Result Scan Refusal) → Scans room tw (read_values vars s 0) ends w r → refused n e.place ≡ judged r → Left tw (Std.Err e) u (load_values room vars s)
+      go room vars s (Std.Err f) (Says.wrong x) q = left (load_values room vars s) (let k : number_of f.reason ≡ n = cc in let l : f.place ≡ e.place = cc in sym (λ i. refused (k i) (l i)) ∙ sym (load_wrong room vars s x))
+      go room vars s (Std.Ok c) (Says.read vs x o r k es) q =
+          left (load_values room vars s) (behind vs c q ∙ (λ j. in_turn (o j) ((k.over ∙ ap (λ (m : ℕ). overfull m (entry_places vs)) r) j) >>= λ _. ok vs) ∙ sym (load_turn room vars s vs x))
 
 -- THE WHOLE
 module _ (w : List ℕ) {room : ℕ} (q : room ≡ work_capacity (length w)) where
-  pub blank : {s vars : List ℕ} {declared : ℕ} {stack : List ℕ} → 3 * declared ≤ length vars → declared ≤ 16 → Deep s (length stack) → Blank s vars declared stack (zeros 16) w room
-  blank h k l = record { variables = h; few = k; deep = l; sixteen = refl; long = omega (arith, q); most = omega (arith, q) }
+  pub blank : {s : List ℕ} {V : List (ℕ × Var)} {stack : List ℕ} → length V ≤ 16 → Deep s (length stack) → Blank s V stack (zeros 16) w room
+  blank k l = record { few = k; deep = l; sixteen = refl; long = omega (arith, q); most = omega (arith, q) }
 
   -- the entries are in the table
-  pub fits : {o : Out (List Value)} {c : Scan} {ends v : List ℕ} → Scans room (length w) o c ends v → length v ≡ length w → Fitting c v
-  fits (Says.wrong x f) same = record { low = λ a b. absurd_option (sym a ∙ f) }
-  fits (Says.read vs x f o n k es) same = record { low = λ a b. omega (arith, q, n, same, overfull_low room (entry_places vs) (sym k.over ∙ b)) }
+  pub fits : {o : Out (List Value)} {r : Std.Result Scan Refusal} {ends v : List ℕ} → Scans room (length w) o ends v r → length v ≡ length w → Fitting r v
+  fits (Says.wrong x) same = record { low = λ c e. cc }
+  fits (Says.read {c = c} vs x o r k es) same = record { low = λ d e b. let z : c ≡ d = cc in rw (← z) (let y : found c.kept.full ≡ none = rw (← z) at b in omega (arith, q, r, k.count, same, overfull_low c.kept.room (entry_places vs) (sym k.over ∙ y))) }
 
-  pub loads : (vars : List (ℕ × Var)) (s : List ℕ) {scan : Scan} {ends v u : List ℕ} {r : Loaded} → Scans room (length w) (read_values vars s 0) scan ends v → length v ≡ length w → Settles (length v) scan ends v r u
+  pub loads : (vars : List (ℕ × Var)) (s : List ℕ) {scan : Std.Result Scan Refusal} {ends v u : List ℕ} {r : Std.Result Loaded Refusal} → Scans room (length w) (read_values vars s 0) ends v scan → length v ≡ length w → Settles (length v) scan ends v r u
       → Left (length w) r u (load_values (work_capacity (length w)) vars s)
   loads vars s {scan} {ends} {v} {u} {r} h same k =
-      let x : Left (length v) r u (load_values room vars s) = k.leaves room vars s (subst (λ (n : ℕ). Scans room n (read_values vars s 0) scan ends v) (sym same) h) in
+      let x : Left (length v) r u (load_values room vars s) = k.leaves room vars s (subst (λ (n : ℕ). Scans room n (read_values vars s 0) ends v scan) (sym same) h) in
       subst (λ (n : ℕ). Left (length w) r u (load_values n vars s)) q (subst (λ (n : ℕ). Left n r u (load_values room vars s)) same x)

@@ -1,7 +1,7 @@
 -- 19: a forest is one tree where its first record has all the others inside.
 -- Assumes nothing.
 use mathlib.Core.Path.{◌≡◌, refl, sym, ap, ◌∙◌}
-use mathlib.Core.Bool.{Bool, true, false, not}
+use mathlib.Core.Bool.{Bool, true, false}
 use mathlib.Core.List.{List}
 use Prim.Native.Nat.{ℕ, suc, ◌-◌, ◌≤◌}
 use native.Mathlib.Omega.{arith}
@@ -11,14 +11,14 @@ use borrow.Author.Tests.{eq-eqb, ne_eqb}
 use Rattle.meaning.specs.Base.{Out, ok, refused, ◌>>=◌}
 use Rattle.meaning.specs.Kinds.{forest·text}
 use Rattle.meaning.specs.Forests.{Forest, end, size, trees}
-use Rattle.meaning.specs.Records as Records
-use Rattle.meaning.specs.Records.{Record, field, var_of}
+use Rattle.meaning.specs.Records.{Record, field}
 use Rattle.meaning.specs.Values.{Part, read_forest}
 use Rattle.meaning.proofs.Forests.{trees_none, size_none}
 use Rattle.meaning.proofs.Values.{forest_ends}
-use Rattle.values.specs.declared.Due.{Due}
+use Rattle.std.specs.Prelude as Std
+use Rattle.refusals.specs.declared.Refusal.{Refusal}
 use Rattle.values.specs.declared.Line.{Line}
-use Rattle.values.specs.Says.{Stands, entry_at, Single, Odd}
+use Rattle.values.specs.Says.{Stands, entry_at, Single}
 use Rattle.values.proofs.Standing.{refuses, seen}
 use Rattle.values.proofs.Stepping.{of_ok, absurd_out, bound, entered, top_of, part_by, firstly, forest_step}
 
@@ -47,29 +47,29 @@ module _ (s : List ℕ) (start n : ℕ) where
       forest_of (ok p) = p.forest
       forest_of (refused k p) = end
 
-  module _ (some : n ≡ 0 → ⊥) {due : Due} (st : Stands (entry_at s start (n - 1)) due) where
+  module _ (some : n ≡ 0 → ⊥) where
     firstly_is : {o : Out Record} → entry_at s start (n - 1) ≡ o → read_forest n s start n ≡ (o >>= firstly (n - 1) s start (n - 1))
     firstly_is q =
         let z : n ≡ suc (n - 1) = omega arith in
         ap (λ (m : ℕ). read_forest m s start m) z ∙ forest_step s start (n - 1) (n - 1) ∙ ap (λ (o : Out Record). o >>= firstly (n - 1) s start (n - 1)) q
 
-    pub single_wrong : {place : ℕ} → due ≡ Due.Wrong place → Single (read_forest n s start n) false
-    single_wrong q = record { is = λ p e. absurd_out (sym (firstly_is (refuses st q)) ∙ e) }
+    pub single_wrong : {r : Refusal} → Stands (entry_at s start (n - 1)) (Std.Err r) → Single (read_forest n s start n) false
+    single_wrong st = record { is = λ p e. absurd_out (sym (firstly_is (refuses st)) ∙ e) }
 
-    pub single_there : {x : Line} → due ≡ Due.There x → Single (read_forest n s start n) (eqb x.b (n - 1))
-    single_there {x} q = record { is = λ p e. go p (sym (firstly_is (seen st q).is) ∙ e) }
+    pub single_there : {x : Line} → Stands (entry_at s start (n - 1)) (Std.Ok x) → Single (read_forest n s start n) (eqb x.b (n - 1))
+    single_there {x} st = record { is = λ p e. go p (sym (firstly_is (seen st).is) ∙ e) }
       where
         m : ℕ
         m = n - 1
 
         r : Record
-        r = (seen st q).line
+        r = (seen st).line
 
         same : x.b ≡ field r 1
-        same = (seen st q).shows.b
+        same = (seen st).shows.b
 
         low : field r 1 ≤ m
-        low = (entered s start m (seen st q).is).inside
+        low = (entered s start m (seen st).is).inside
 
         go : (p : Part) → firstly m s start m r ≡ ok p → eqb x.b m ≡ eqb (trees p.forest) 1
         go p e =
@@ -79,11 +79,3 @@ module _ (s : List ℕ) (start n : ℕ) where
             let last = of_ok (forest_ends s m j.next (m - field r 1) (omega (arith, low))) h in
             let y : trees p.forest ≡ suc (trees t.forest) = ap (λ (y : Part). trees y.forest) (sym z) ∙ top_trees (eqb r.kind forest·text) (field r 0) j.forest t.forest in
             rw (same, y) (one_more t.forest (field r 1) m low last.entries)
-
--- a variable of a kind
-module _ {kind : ℕ} {o : Out Part} where
-  pub odd_tree : kind ≡ 17 → {r : Bool} → Single o r → Odd kind o (not r)
-  odd_tree q h = record { is = λ e p k. let z : var_of kind e ≡ Records.tree e = rw (var_of, eq-eqb kind 17 q) refl in rw z (ap not (h.is p k)) }
-
-  pub odd_forest : (kind ≡ 17 → ⊥) → Odd kind o false
-  odd_forest q = record { is = λ e p k. let z : var_of kind e ≡ Records.forest e = rw (var_of, ne_eqb kind 17 q) refl in rw z refl }

@@ -1,2 +1,2 @@
--- What the loader's answers say in document 01's terms.
+-- What the loader's answers say in the terms of `meaning`.
 pub mod Says

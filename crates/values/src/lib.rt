@@ -1,41 +1,44 @@
-// The values file into the work table: 18 over the whole file, then 19, then 20.
+// A values file into a lent work table: 18 over the whole file, then 19, then 20.
 #![tactic(auto)]
 
-ghost use Rattle.std.specs.Prelude.{◌≡◌, [], ◌∷◌, ◌+◌, ◌*◌, ◌≤◌, ◌<◌, min, length};
+ghost use Rattle.std.specs.Prelude.{◌≡◌, [], ◌∷◌, ◌+◌, ◌*◌, ◌≤◌, length};
 ghost use Rattle.meaning.specs.Base.{forest_width, work_capacity};
 ghost use Rattle.meaning.specs.Values.{value_at, read_forest, read_value, read_values, load_values};
-ghost use Rattle.words.specs.Tables.{vars_of};
-ghost use Rattle.words.specs.Says.{found};
-ghost use Rattle.records.specs.Says.{item_of, Filled};
-ghost use Rattle.values.specs.Says.{Stands, fitted, is_entry, entry_at, head_at, words_of, Adds, Reads, Single, Odd, Gives, place_if, earlier_of, Deep, Blank, Scans, verdict, in_turn, Fitting, Settles, Left};
+ghost use Rattle.refusals.specs.Says.{told};
+ghost use Rattle.values.specs.Says.{wrong_at, Stands, is_entry, entry_at, head_at, words_of, Adds, Reads, Single, Odd, Gives, Deep, Blank, Scans, judged, Fitting, Settles, Left};
 
-use records::{Item, Rec};
-use words::Found;
+use refusals::{Reason, Refusal};
+use tables::Vars;
 
 // A record of a values file: its kind, its fields (one that it does not have is 0), and the place after it.
 #[derive(Clone, Copy)]
-pub struct Line {
-    pub kind: u16,
-    pub a: u16,
-    pub b: u16,
-    pub next: usize,
+struct Line {
+    kind: u16,
+    a: u16,
+    b: u16,
+    next: usize,
 }
 
-// A record that is due at a place: it is there, or it is wrong, and where.
-#[derive(Drop)]
-pub enum Due {
-    Wrong(usize),
-    There(Line),
-}
-
-// A whole record at a place, where its fields fit.
-fn fitting(i: Item, at: usize) -> Due
-    ensures { Filled i → Stands (fitted (item_of i) at) result }
+// 18 at a place.
+fn wrong(place: usize) -> Refusal
+    ensures { result ≡ wrong_at place }
 {
+    let reason = Reason::WrongValues;
+    Refusal { reason, place }
+}
+
+// The record that is due at a place, whose fields fit.
+fn value_at(s: &[u8], at: usize) -> Result<Line, Refusal>
+    requires { at ≤ length s.now }
+    ensures { Stands (value_at s.now at) result }
+{
+    let Ok(i) = records::value_at(s, at) else {
+        return Err(wrong(at));
+    };
     if !records::value_fits(i) {
-        return Due::Wrong(at);
+        return Err(wrong(at));
     }
-    Due::There(Line {
+    Ok(Line {
         kind: i.kind,
         a: i.a,
         b: i.b,
@@ -43,131 +46,98 @@ fn fitting(i: Item, at: usize) -> Due
     })
 }
 
-// The record that is due at a place.
-fn value_at(s: &[u8], at: usize) -> Due
-    requires { at ≤ length s.now }
-    ensures { Stands (value_at s.now at) result }
-{
-    match records::value_at(s, at) {
-        Rec::Cut => Due::Wrong(at),
-        Rec::Strange => Due::Wrong(at),
-        Rec::Misfit => Due::Wrong(at),
-        Rec::Whole(i) => fitting(i, at),
-    }
-}
-
 // Whether a record of this kind is an entry of a forest.
 fn is_entry(kind: u16) -> bool
     ensures { result ≡ is_entry kind }
 {
-    if kind == 64 {
-        return true;
-    }
-    kind == 65
+    matches!(kind, 64 | 65)
 }
 
 // The entry that is due at a place, with so many more to come in its stretch.
-fn entry_at(s: &[u8], at: usize, left: u16) -> Due
+fn entry_at(s: &[u8], at: usize, left: u16) -> Result<Line, Refusal>
     requires { at ≤ length s.now }
     ensures { Stands (entry_at s.now at left) result }
 {
-    let due = value_at(s, at);
-    let Due::There(x) = due else {
-        return due;
-    };
+    let x = value_at(s, at)?;
     if !is_entry(x.kind) {
-        return Due::Wrong(at);
+        return Err(wrong(at));
     }
     if left < x.b {
-        return Due::Wrong(at);
+        return Err(wrong(at));
     }
-    Due::There(x)
+    Ok(x)
 }
 
 // The record 66 that is due at a place, for the variable v.
-fn head_at(s: &[u8], at: usize, v: u16) -> Due
+fn head_at(s: &[u8], at: usize, v: u16) -> Result<Line, Refusal>
     requires { at ≤ length s.now }
     ensures { Stands (head_at v s.now at) result }
 {
-    let due = value_at(s, at);
-    let Due::There(x) = due else {
-        return due;
-    };
-    if x.kind != 66 {
-        return Due::Wrong(at);
+    let x = value_at(s, at)?;
+    if x.kind != 66 || x.a != v {
+        return Err(wrong(at));
     }
-    if x.a != v {
-        return Due::Wrong(at);
-    }
-    Due::There(x)
+    Ok(x)
 }
 
-// Stores entry e, whose record stands at a place, where there is room. The answer is where the first record without room stands, if one did so far.
-fn keep(work: &mut [u16], room: usize, e: usize, x: Line, at: usize, full: Found) -> Found
-    requires { forest_width * room ≤ length work.old }
-    ensures { Adds room (length work.old) e work.old full work.new result (words_of x) (at ∷ []) }
-{
-    if e < room {
-        words::put_entry(work, e, x.kind, x.a, x.b);
-        return full;
-    }
-    if e == room {
-        return Found::At(at);
-    }
-    full
+// The entries in the front of a work table: for how many there is room, how many were read, and where the first record without room stands.
+#[derive(Clone, Copy)]
+struct Kept {
+    room: usize,
+    entries: usize,
+    full: Option<usize>,
 }
 
-// How reading a forest ends: something is wrong at a place, or the place behind it is reached.
-#[derive(Drop)]
-pub enum Went {
-    Wrong(usize),
-    To { next: usize, full: Found },
+impl Kept {
+    // One entry more, whose record stands at a place: it is stored where there is room.
+    fn keep(&mut self, work: &mut [u16], x: Line, at: usize)
+        requires long { forest_width * self.old.room ≤ length work.old }
+        requires few { self.old.entries ≤ 2097152 }
+        ensures { Adds (length work.old) work.old self.old work.new self.new (words_of x) (at ∷ []) }
+    {
+        let e = self.entries;
+        self.entries += 1;
+        if e < self.room {
+            words::put_entry(work, e, x.kind, x.a, x.b);
+        } else {
+            self.full = self.full.or(Some(at));
+        }
+    }
 }
 
-// Reads the n records of a forest from a place on, its entries from number `first` on. `stack` has for each open stretch how many of its records are
-// still to come, the innermost last.
+// Reads the n records of a forest from a place on, and gives the place behind it. `stack` has for each open stretch how many of its records are still to
+// come, the innermost last.
 fn read_forest(
     s: &[u8],
     start: usize,
     n: u16,
     stack: &mut [u16],
     work: &mut [u16],
-    room: usize,
-    first: usize,
-    before: Found,
-) -> Went
-    requires fact_1 { start ≤ length s.now }
-    requires fact_2 { Deep s.now (length stack.old) }
-    requires fact_3 { forest_width * room ≤ length work.old }
-    requires fact_4 { first ≤ 1048576 }
-    ensures { Reads room (length work.old) first work.old before work.new (read_forest n s.now start n) result }
+    kept: &mut Kept,
+) -> Result<usize, Refusal>
+    requires inside { start ≤ length s.now }
+    requires deep { Deep s.now (length stack.old) }
+    requires long { forest_width * kept.old.room ≤ length work.old }
+    requires few { kept.old.entries ≤ 1048576 }
+    ensures { Reads (length work.old) work.old kept.old work.new kept.new (read_forest n s.now start n) result }
 {
     stack[0] = n;
     let mut depth: usize = 1;
     let mut at = start;
-    let mut e = first;
-    let mut full = before;
     while 0 < depth {
         let left = stack[depth - 1];
         if left == 0 {
             depth -= 1;
         } else {
-            match entry_at(s, at, left - 1) {
-                Due::Wrong(place) => {
-                    return Went::Wrong(place);
-                }
-                Due::There(x) => {
-                    full = keep(work, room, e, x, at, full);
-                    stack[depth - 1] = left - 1 - x.b;
-                    stack[depth] = x.b;
-                    depth += 1;
-                    e += 1;
-                    at = x.next;
-                }
-            }
+            let x = entry_at(s, at, left - 1)?;
+            kept.keep(work, x, at);
+            stack[depth - 1] = left - 1 - x.b;
+            stack[depth] = x.b;
+            depth += 1;
+            at = x.next;
         }
     }
-    Went::To { next: at, full }
+    Ok(at)
 }
 
 // Whether the forest of the n records from a place on, once it is read, is one tree: its first record has all the others inside.
@@ -178,7 +148,7 @@ fn one_tree(s: &[u8], start: usize, n: u16) -> bool
     if n == 0 {
         return false;
     }
-    let Due::There(x) = entry_at(s, start, n - 1) else {
+    let Ok(x) = entry_at(s, start, n - 1) else {
         return false;
     };
     x.b == n - 1
@@ -190,55 +160,14 @@ fn is_odd(kind: u16, s: &[u8], start: usize, n: u16) -> bool
     ensures { Odd kind (read_forest n s.now start n) result }
 {
     let is_tree = kind == 17;
-    if is_tree {
-        return !one_tree(s, start, n);
-    }
-    false
+    is_tree && !one_tree(s, start, n)
 }
 
-// How reading a variable's value ends.
-#[derive(Drop)]
-pub enum Valued {
-    Wrong(usize),
-    Read {
-        entries: usize,
-        next: usize,
-        full: Found,
-        odd: bool,
-    },
-}
-
-// Reads the forest of the n records from a place on, for a variable of a kind.
-fn read_entries(
-    s: &[u8],
-    start: usize,
-    n: u16,
-    kind: u16,
-    stack: &mut [u16],
-    work: &mut [u16],
-    room: usize,
-    first: usize,
-    before: Found,
-) -> Valued
-    requires fact_1 { start ≤ length s.now }
-    requires fact_2 { Deep s.now (length stack.old) }
-    requires fact_3 { forest_width * room ≤ length work.old }
-    requires fact_4 { first ≤ 1048576 }
-    ensures { Gives kind room (length work.old) first work.old before work.new (read_forest n s.now start n) result }
-{
-    match read_forest(s, start, n, stack, work, room, first, before) {
-        Went::Wrong(place) => Valued::Wrong(place),
-        Went::To { next, full } => {
-            let odd = is_odd(kind, s, start, n);
-            let entries = words::wide(n);
-            Valued::Read {
-                entries,
-                next,
-                full,
-                odd,
-            }
-        }
-    }
+// A variable's value that was read: the place behind it, and whether it is a tree variable's without exactly one tree.
+#[derive(Clone, Copy)]
+struct Valued {
+    next: usize,
+    odd: bool,
 }
 
 // Reads the value of the variable v, of a kind, from a place on.
@@ -249,231 +178,125 @@ fn read_value(
     v: u16,
     stack: &mut [u16],
     work: &mut [u16],
-    room: usize,
-    first: usize,
-    before: Found,
-) -> Valued
-    requires fact_1 { at ≤ length s.now }
-    requires fact_2 { Deep s.now (length stack.old) }
-    requires fact_3 { forest_width * room ≤ length work.old }
-    requires fact_4 { first ≤ 1048576 }
-    ensures { Gives kind room (length work.old) first work.old before work.new (read_value v s.now at) result }
+    kept: &mut Kept,
+) -> Result<Valued, Refusal>
+    requires inside { at ≤ length s.now }
+    requires deep { Deep s.now (length stack.old) }
+    requires long { forest_width * kept.old.room ≤ length work.old }
+    requires few { kept.old.entries ≤ 1048576 }
+    ensures { Gives kind (length work.old) work.old kept.old work.new kept.new (read_value v s.now at) result }
 {
-    match head_at(s, at, v) {
-        Due::Wrong(place) => Valued::Wrong(place),
-        Due::There(x) => read_entries(s, x.next, x.b, kind, stack, work, room, first, before),
-    }
+    let x = head_at(s, at, v)?;
+    let next = read_forest(s, x.next, x.b, stack, work, kept)?;
+    let odd = is_odd(kind, s, x.next, x.b);
+    Ok(Valued { next, odd })
 }
 
-// A place, where a test has passed.
-fn place_if(test: bool, at: usize) -> Found
-    ensures { found result ≡ place_if test at }
-{
-    if test {
-        return Found::At(at);
-    }
-    Found::Nowhere
-}
-
-// The first of two that was found.
-fn earlier(one: Found, other: Found) -> Found
-    ensures { found result ≡ earlier_of (found one) (found other) }
-{
-    if let Found::At(place) = one {
-        return Found::At(place);
-    }
-    other
-}
-
-// A count of entries, at most as many as there is room for.
-fn capped(count: usize, room: usize) -> u16
-    requires { room ≤ 8192 }
-    ensures { result ≡ min count room }
-{
-    if count < room {
-        return count as u16;
-    }
-    room as u16
-}
-
-// What reading all values finds: the place of 18, of 19 and of 20, and how many entries there are.
-#[derive(Drop)]
-pub struct Scan {
-    pub wrong: Found,
-    pub odd: Found,
-    pub full: Found,
-    pub entries: usize,
+// What reading all values finds: the place of 19, and the entries, with the place of 20.
+#[derive(Clone, Copy)]
+struct Scan {
+    odd: Option<usize>,
+    kept: Kept,
 }
 
 // Reads the values of the declared variables into the front of a work table, and the ends of their forests into `ends`.
 fn read_values(
     s: &[u8],
-    vars: &[u16],
-    declared: usize,
+    vars: &Vars,
     stack: &mut [u16],
     ends: &mut [u16],
     work: &mut [u16],
     room: usize,
-) -> Scan
-    requires { Blank s.now vars.now declared stack.old ends.old work.old room }
-    ensures { Scans room (length work.old) (read_values (vars_of vars.now declared) s.now 0) result ends.new work.new }
+) -> Result<Scan, Refusal>
+    requires { Blank s.now vars.now stack.old ends.old work.old room }
+    ensures { Scans room (length work.old) (read_values vars.now s.now 0) ends.new work.new result }
 {
-    let mut i: usize = 0;
     let mut at: usize = 0;
-    let mut entries: usize = 0;
-    let mut odd = Found::Nowhere;
-    let mut full = Found::Nowhere;
-    while i < declared {
-        let x = words::read_entry(vars, i);
-        match read_value(s, at, x.kind, x.a, stack, work, room, entries, full) {
-            Valued::Wrong(place) => {
-                return Scan {
-                    wrong: Found::At(place),
-                    odd,
-                    full,
-                    entries,
-                };
-            }
-            Valued::Read {
-                entries: n,
-                next,
-                full: over,
-                odd: bad,
-            } => {
-                odd = earlier(odd, place_if(bad, at));
-                full = over;
-                entries += n;
-                ends[i] = capped(entries, room);
-                at = next;
-                i += 1;
-            }
-        }
+    let mut odd = None;
+    let mut kept = Kept {
+        room,
+        entries: 0,
+        full: None,
+    };
+    for i in 0..vars.len() {
+        let x = vars.get(i);
+        let value = read_value(s, at, x.kind, x.a, stack, work, &mut kept)?;
+        odd = odd.or(value.odd.then_some(at));
+        ends[i] = kept.entries.min(room) as u16;
+        at = value.next;
     }
-    let wrong = place_if(at < s.len(), at);
-    Scan {
-        wrong,
-        odd,
-        full,
-        entries,
+    if at < s.len() {
+        return Err(wrong(at));
     }
+    Ok(Scan { odd, kept })
 }
 
-// What the refusals say: nothing to refuse, or a refusal's number and place.
-#[derive(Drop)]
-pub enum Verdict {
-    Passed,
-    Refused { number: u16, place: usize },
-}
-
-// The first of three refusals, each with its number, where what it is about was found.
-fn first_of(n: u16, one: Found, m: u16, two: Found, k: u16, three: Found) -> Verdict
-    ensures { verdict result ≡ in_turn n (found one) m (found two) k (found three) }
+// How many entries were read, or the first of the refusals.
+fn judged(scan: Result<Scan, Refusal>) -> Result<usize, Refusal>
+    ensures { told result ≡ judged scan }
 {
-    if let Found::At(place) = one {
-        return Verdict::Refused { number: n, place };
+    let scan = scan?;
+    if let Some(place) = scan.odd {
+        let reason = Reason::NotOneTree;
+        return Err(Refusal { reason, place });
     }
-    if let Found::At(place) = two {
-        return Verdict::Refused { number: m, place };
+    if let Some(place) = scan.kept.full {
+        let reason = Reason::ValuesFull;
+        return Err(Refusal { reason, place });
     }
-    if let Found::At(place) = three {
-        return Verdict::Refused { number: k, place };
-    }
-    Verdict::Passed
+    Ok(scan.kept.entries)
 }
 
-// How many entries the values have; or the refusal.
-#[derive(Drop)]
-pub enum Answer {
-    Values { entries: usize },
-    Refused { number: u16, place: usize },
-}
-
-// The answer, and for each declared variable the entry behind its forest.
-#[derive(Drop)]
+// How many entries the values have, and for each declared variable the entry behind its forest.
+#[derive(Clone, Copy, Debug, PartialEq, Eq)]
 pub struct Loaded {
-    pub answer: Answer,
+    pub entries: usize,
     pub ends: [u16; 16],
 }
 
 // The answer after all values are read: the work table is cleared behind them, or all of it.
-fn settle(scan: Scan, ends: [u16; 16], work: &mut [u16]) -> Loaded
+#[tactic(auto, using(crate::proofs::Settling::passed_low))]
+fn settle(scan: Result<Scan, Refusal>, ends: [u16; 16], work: &mut [u16]) -> Result<Loaded, Refusal>
     requires { Fitting scan work.old }
     ensures { Settles (length work.old) scan ends work.old result work.new }
 {
-    let wrong = scan.wrong;
-    let odd = scan.odd;
-    let full = scan.full;
-    match first_of(18, wrong, 19, odd, 20, full) {
-        Verdict::Passed => {
-            words::clear_behind(work, scan.entries);
-            let answer = Answer::Values {
-                entries: scan.entries,
-            };
-            Loaded { answer, ends }
+    match judged(scan) {
+        Ok(entries) => {
+            words::clear_behind(work, entries);
+            Ok(Loaded { entries, ends })
         }
-        Verdict::Refused { number, place } => {
+        Err(refusal) => {
             words::clear(work);
-            let answer = Answer::Refused { number, place };
-            let ends = [0u16; 16];
-            Loaded { answer, ends }
+            Err(refusal)
         }
     }
 }
 
-// The values into the work table. `stack` is scratch.
-fn load_with(s: &[u8], vars: &[u16], declared: usize, stack: &mut [u16], work: &mut [u16]) -> Loaded
-    requires fact_1 { 3 * declared ≤ length vars.now }
-    requires fact_2 { declared ≤ 16 }
-    requires fact_3 { Deep s.now (length stack.old) }
-    ensures { Left (length work.old) result work.new (load_values (work_capacity (length work.old)) (vars_of vars.now declared) s.now) }
+// The values into the work table, with a stack for so many open stretches: clearing it is most of what a small file costs.
+fn load_with<const N: usize>(s: &[u8], vars: &Vars, work: &mut [u16]) -> Result<Loaded, Refusal>
+    requires few { length vars.now ≤ 16 }
+    requires deep { Deep s.now N }
+    requires most { N ≤ 65536 }
+    ensures { Left (length work.old) result work.new (load_values (work_capacity (length work.old)) vars.now s.now) }
 {
     let room = words::work_room(work);
+    let mut stack = [0u16; N];
     let mut ends = [0u16; 16];
-    let scan = read_values(s, vars, declared, stack, &mut ends, work, room);
+    let scan = read_values(s, vars, &mut stack, &mut ends, work, room);
     settle(scan, ends, work)
-}
-
-// The same with a stack for files of at most 1,000 bytes, of at most 32,000, and of any: clearing it is most of what a small file costs.
-fn load_short(s: &[u8], vars: &[u16], declared: usize, work: &mut [u16]) -> Loaded
-    requires fact_1 { 3 * declared ≤ length vars.now }
-    requires fact_2 { declared ≤ 16 }
-    requires fact_3 { length s.now ≤ 1000 }
-    ensures { Left (length work.old) result work.new (load_values (work_capacity (length work.old)) (vars_of vars.now declared) s.now) }
-{
-    let mut stack = [0u16; 256];
-    load_with(s, vars, declared, &mut stack, work)
-}
-
-fn load_middling(s: &[u8], vars: &[u16], declared: usize, work: &mut [u16]) -> Loaded
-    requires fact_1 { 3 * declared ≤ length vars.now }
-    requires fact_2 { declared ≤ 16 }
-    requires fact_3 { length s.now ≤ 32000 }
-    ensures { Left (length work.old) result work.new (load_values (work_capacity (length work.old)) (vars_of vars.now declared) s.now) }
-{
-    let mut stack = [0u16; 8192];
-    load_with(s, vars, declared, &mut stack, work)
-}
-
-fn load_any(s: &[u8], vars: &[u16], declared: usize, work: &mut [u16]) -> Loaded
-    requires fact_1 { 3 * declared ≤ length vars.now }
-    requires fact_2 { declared ≤ 16 }
-    ensures { Left (length work.old) result work.new (load_values (work_capacity (length work.old)) (vars_of vars.now declared) s.now) }
-{
-    let mut stack = [0u16; 65536];
-    load_with(s, vars, declared, &mut stack, work)
 }
 
 // Loads a values file into a lent work table: of any bytes, and of any lengths. A refusal leaves every word of it zero. Stretches may nest as deep as
 // a variable has records.
-pub fn load(file: &[u8], vars: &[u16], declared: usize, work: &mut [u16]) -> Loaded
-    requires { (3 * declared ≤ length vars.now) × (declared ≤ 16) }
-    ensures { Left (length work.old) result work.new (load_values (work_capacity (length work.old)) (vars_of vars.now declared) file.now) }
+pub fn load(file: &[u8], vars: &Vars, work: &mut [u16]) -> Result<Loaded, Refusal>
+    requires few { length vars.now ≤ 16 }
+    ensures { Left (length work.old) result work.new (load_values (work_capacity (length work.old)) vars.now file.now) }
 {
     if file.len() <= 1000 {
-        return load_short(file, vars, declared, work);
+        return load_with::<256>(file, vars, work);
     }
     if file.len() <= 32000 {
-        return load_middling(file, vars, declared, work);
+        return load_with::<8192>(file, vars, work);
     }
-    load_any(file, vars, declared, work)
+    load_with::<65536>(file, vars, work)
 }

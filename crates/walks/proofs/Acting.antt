@@ -21,7 +21,8 @@ use Rattle.grow.proofs.Entries.{element_low, name_low}
 use Rattle.acts.specs.Acts.{does, prime_of, content_of, sift_of, act_of}
 use Rattle.acts.specs.declared.Mode.{Mode}
 use Rattle.acts.specs.declared.Act.{Act}
-use Rattle.walks.specs.Frames.{Frame, half, alone, joined, second, Paired}
+use Rattle.walks.specs.Frames.{second, Paired}
+use Rattle.walks.specs.declared.Frame.{Frame}
 use Rattle.walks.proofs.Tall.{size, tall, tall_falls}
 
 -- entry x is a part of entry e, not behind an element
@@ -34,17 +35,17 @@ pub record Inner (D : Defs) (T : Table) (e x : ℕ) : Type 0 where
 module _ (mode : Mode) (room node : ℕ) (D : Defs) (T : Table) where
   -- what a frame leaves to do, once its part has answered or refused
   unfoldable pub run : Frame → Out (Table × ℕ) → Out (Table × ℕ)
-  run (half k e) o = after o (λ l. λ U. after (does mode room node (shape D T (second (at T e))) U) (λ r. append room node (entry_of k l r)))
-  run (alone k) o = after o (λ r. append room node (entry_of k r 0))
-  run (joined k l) o = after o (λ r. append room node (entry_of k l r))
+  run (Frame.Half k e) o = after o (λ l. λ U. after (does mode room node (shape D T (second (at T e))) U) (λ r. append room node (entry_of k l r)))
+  run (Frame.Alone k) o = after o (λ r. append room node (entry_of k r 0))
+  run (Frame.Joined k l) o = after o (λ r. append room node (entry_of k l r))
 
   pub data Says (e : ℕ) : Act → Type 0 where
     answers : {r : ℕ} → r < length T → ((U : Table) → does mode room node (shape D T e) U ≡ ok (U, r)) → Says e (Act.Answer r)
     goes : {p : ℕ} → Inner D T e p → ((U : Table) → does mode room node (shape D T e) U ≡ does mode room node (shape D T p) U) → Says e (Act.Into p)
     halves : {k a : ℕ} → 4 ≤ k → k < 6 → Paired (at T e) → Inner D T e a → size (shape D T a) + size (shape D T (second (at T e))) < size (shape D T e)
-        → ((U : Table) → does mode room node (shape D T e) U ≡ run (half k e) (does mode room node (shape D T a) U)) → Says e (Act.First k a)
+        → ((U : Table) → does mode room node (shape D T e) U ≡ run (Frame.Half k e) (does mode room node (shape D T a) U)) → Says e (Act.First k a)
     starts : {k a : ℕ} → 6 ≤ k → k < 9 → Inner D T e a
-        → ((U : Table) → does mode room node (shape D T e) U ≡ run (alone k) (does mode room node (shape D T a) U)) → Says e (Act.First k a)
+        → ((U : Table) → does mode room node (shape D T e) U ≡ run (Frame.Alone k) (does mode room node (shape D T a) U)) → Says e (Act.First k a)
 
 -- THE PARTS
 module _ {D : Defs} {T : Table} (F : Formed D T) {e : ℕ} where

@@ -7,8 +7,14 @@ use Prim.Native.Nat.{ℕ, zero, suc, ◌+◌, ◌*◌, ◌-◌, ◌≤◌, ◌<�
 use native.Mathlib.Omega.{arith}
 use native.Mathlib.Decide.{ℕ_discrete}
 use lib.ListN.{length, get_or, set, length-set}
+use Rattle.std.specs.Prelude as Std
+use Rattle.std.specs.Prelude.{Result}
+use Rattle.refusals.specs.declared.Refusal.{Refusal}
+use Rattle.refusals.specs.Says.{number_of}
+use Rattle.words.specs.declared.Entry as Words
 use Rattle.meaning.specs.Base.{Out, ok, refused, type_width, type_capacity}
 use Rattle.meaning.specs.Types.{Entry, Table, Defs, entry_of, at}
+use Rattle.meaning.specs.Formed.{Formed}
 use Rattle.meaning.specs.Shapes.{shape}
 use Rattle.meaning.specs.Rules.{append}
 use Rattle.words.specs.Tables.{table_of}
@@ -18,14 +24,15 @@ use Rattle.grow.specs.Grow.{Ready, Left, New, answer_of}
 use Rattle.grow.specs.declared.Made.{Made}
 use Rattle.grow.proofs.Entries.{new_pair, new_union, new_star, new_plus, new_opt}
 use Rattle.grow.proofs.Steps.{left_ready, after_ok, after_refused, kept_table, appended, appended_grows}
-use Rattle.acts.specs.Acts.{Place, does, act_of}
+use Rattle.acts.specs.Acts.{does, act_of}
 use Rattle.acts.specs.declared.Mode.{Mode}
 use Rattle.acts.specs.declared.Act.{Act}
-use Rattle.walks.specs.Frames.{Frame, half, alone, joined, frame_of, second, Paired, Halved, down_of, pushed, then_of}
+use Rattle.walks.specs.Frames.{frame_of, second, Paired, Halved, Fit, begun, down_of, Pushed, then_of}
+use Rattle.walks.specs.declared.Frame.{Frame}
 use Rattle.walks.specs.declared.Next.{Next}
 use Rattle.walks.specs.declared.Then.{Then}
 use Rattle.walks.proofs.Tall.{size, tall, tall_most}
-use Rattle.walks.proofs.Stack.{says_half, says_alone, says_joined, frames, frames_set}
+use Rattle.walks.proofs.Stack.{begun_half, begun_alone, frames, frames_set}
 use Rattle.walks.proofs.Acting.{Inner, run, Says, answers, goes, halves, starts, second_inner, acting}
 
 pub one_less : {n : ℕ} → n ≢ 0 → n ≡ suc (n - 1)
@@ -56,16 +63,16 @@ module _ (mode : Mode) (room node : ℕ) (D : Defs) (T : Table) where
   resume_refused : (fs : List Frame) (k place : ℕ) → resume fs (refused k place) ≡ refused k place
   unfolding resume run
   resume_refused [] k place = refl
-  resume_refused (half i e ∷ fs) k place = resume_refused fs k place
-  resume_refused (alone i ∷ fs) k place = resume_refused fs k place
-  resume_refused (joined i l ∷ fs) k place = resume_refused fs k place
+  resume_refused (Frame.Half i e ∷ fs) k place = resume_refused fs k place
+  resume_refused (Frame.Alone i ∷ fs) k place = resume_refused fs k place
+  resume_refused (Frame.Joined i l ∷ fs) k place = resume_refused fs k place
 
 module _ (D : Defs) (T : Table) where
   -- how much a frame leaves to do
   abbrev cost : Frame → ℕ
-  cost (half k e) = 4 * size (shape D T (second (at T e))) + 3
-  cost (alone k) = 1
-  cost (joined k l) = 1
+  cost (Frame.Half k e) = 4 * size (shape D T (second (at T e))) + 3
+  cost (Frame.Alone k) = 1
+  cost (Frame.Joined k l) = 1
 
   unfoldable pub work : List Frame → ℕ
   work [] = 0
@@ -73,9 +80,9 @@ module _ (D : Defs) (T : Table) where
 
   -- a frame over d others, in a table that has grown to n entries
   abbrev Sound : ℕ → ℕ → Frame → Type 0
-  Sound n d (half k e) = (4 ≤ k) × (k < 6) × (e < length T) × Paired (at T e) × (d + tall D T e < 4096)
-  Sound n d (alone k) = (6 ≤ k) × (k < 9)
-  Sound n d (joined k l) = (4 ≤ k) × (k < 6) × (l < n)
+  Sound n d (Frame.Half k e) = (4 ≤ k) × (k < 6) × (e < length T) × Paired (at T e) × (d + tall D T e < 4096)
+  Sound n d (Frame.Alone k) = (6 ≤ k) × (k < 9)
+  Sound n d (Frame.Joined k l) = (4 ≤ k) × (k < 6) × (l < n)
 
   -- d frames, each over those after it
   unfoldable pub Good : ℕ → ℕ → List Frame → Type 0
@@ -84,9 +91,9 @@ module _ (D : Defs) (T : Table) where
   Good n (suc d) (f ∷ fs) = Sound n d f × Good n d fs
 
   sound_more : {n m : ℕ} (d : ℕ) (f : Frame) → n ≤ m → Sound n d f → Sound m d f
-  sound_more d (half k e) h s = s
-  sound_more d (alone k) h s = s
-  sound_more d (joined k l) h s = (s.0, s.1, omega (arith, s.2))
+  sound_more d (Frame.Half k e) h s = s
+  sound_more d (Frame.Alone k) h s = s
+  sound_more d (Frame.Joined k l) h s = (s.0, s.1, omega (arith, s.2))
 
   good_more : {n m : ℕ} (d : ℕ) (fs : List Frame) → n ≤ m → Good n d fs → Good m d fs
   unfolding Good
@@ -174,7 +181,7 @@ module _ (walk : Walk) where
         }
 
     module _ {us ds st : List ℕ} {n : ℕ} (h : Held us ds st n) where
-      held_inside : type_width * walk.count ≤ length us
+      pub held_inside : type_width * walk.count ≤ length us
       held_inside = omega (arith, h.ready.lent.fits, h.more)
 
       -- another word on the stack
@@ -183,32 +190,29 @@ module _ (walk : Walk) where
 
     -- A STEP DOWN
     module _ {us ds st : List ℕ} {n e top : ℕ} (s : Descends us ds st n e top) where
-      pub down_place : Place walk.defs us walk.count e
-      down_place = record { formed = rw s.held.first R.formed; inside = held_inside s.held; low = rw table_length at s.low }
+      pub down_formed : Formed walk.defs (table_of us walk.count)
+      down_formed = rw s.held.first R.formed
+
+      pub down_low : e < length (table_of us walk.count)
+      down_low = rw s.held.first s.low
 
       module _ (enough : 4096 ≤ walk.deep) where
         pub down_room : top < length st
         down_room = omega (arith, s.short, s.held.deep)
 
-        pub down_short : top < 4096
-        down_short = omega (arith, s.short)
-
         abbrev Steps : Act → Type 0
-        Steps a = Stands us ds (pushed a e top st) n (down_of a top) × (left (pushed a e top st) (down_of a top) < left st (Next.Down e top))
+        Steps a = (us' : List ℕ) → Pushed a e top st us' → Stands us ds us' n (down_of a top) × (left us' (down_of a top) < left st (Next.Down e top))
 
-        low_word : e < 4096
-        low_word = omega (arith, s.low, R.formed.few)
-
-        -- with the frame f of a word, for part a
-        pushing : (k a : ℕ) (f : Frame) → Inner walk.defs T e a → frame_of (k * 4096 + e) ≡ f → Sound walk.defs T n top f
+        -- with a word of the frame f, for part a
+        pushing : (k a : ℕ) (f : Frame) → begun k e ≡ f → Inner walk.defs T e a → Sound walk.defs T n top f
             → 4 * size (shape walk.defs T a) + cost walk.defs T f < 4 * size (shape walk.defs T e)
             → ((U : Table) → ruled e U ≡ run walk.mode room walk.node walk.defs T f (ruled a U)) → Steps (Act.First k a)
         unfolding Good frames resume work
-        pushing k a f i q sound less is =
-            let p : frames (set st top (k * 4096 + e)) (suc top) ≡ f ∷ frames st top
-            = frames_set st top (k * 4096 + e) down_room ∙ ap (λ g. g ∷ frames st top) q in (
+        pushing k a f q i sound less is vs (w, set_is, word_is) =
+            let p : frames vs (suc top) ≡ f ∷ frames st top
+            = ap (λ us. frames us (suc top)) set_is ∙ frames_set st top w down_room ∙ ap (λ g. g ∷ frames st top) (word_is ∙ q) in (
               record {
-                held = set_held s.held top (k * 4096 + e);
+                held = rw set_is (set_held s.held top w);
                 low = i.low;
                 short = omega (arith, i.tall, s.short);
                 good = subst (Good walk.defs T n (suc top)) (sym p) (sound, s.good);
@@ -218,7 +222,7 @@ module _ (walk : Walk) where
             )
 
         stepping : (a : Act) → Says walk.mode room walk.node walk.defs T e a → Steps a
-        stepping (Act.Answer r) (answers l is) = (
+        stepping (Act.Answer r) (answers l is) vs q = rw q (
           record {
             held = s.held;
             low = omega (arith, l, table_length walk.types walk.count, s.held.more);
@@ -228,7 +232,7 @@ module _ (walk : Walk) where
           },
           omega arith,
         )
-        stepping (Act.Into p) (goes i is) = (
+        stepping (Act.Into p) (goes i is) vs q = rw q (
           record {
             held = s.held;
             low = i.low;
@@ -238,26 +242,24 @@ module _ (walk : Walk) where
           },
           omega (arith, i.less),
         )
-        stepping (Act.First k a) (halves l h p i z is) =
-            pushing k a (half k e) i (says_half k e low_word h) (l, h, s.low, p, s.short) (omega (arith, z)) is
-        stepping (Act.First k a) (starts l h i is) =
-            pushing k a (alone k) i (says_alone k e low_word l h) (l, h) (omega (arith, i.less)) is
+        stepping (Act.First k a) (halves l h p i z is) vs q = pushing k a (Frame.Half k e) (begun_half k e h) i (l, h, s.low, p, s.short) (omega (arith, z)) is vs q
+        stepping (Act.First k a) (starts l h i is) vs q = pushing k a (Frame.Alone k) (begun_alone k e l) i (l, h) (omega (arith, i.less)) is vs q
 
-        stepped : {st' : List ℕ} {next : Next} → next ≡ down_of (act_of walk.mode walk.defs e (at (table_of us walk.count) e)) top → st' ≡ pushed (act_of walk.mode walk.defs e (at (table_of us walk.count) e)) e top st
+        stepped : (st' : List ℕ) {next : Next} → next ≡ down_of (act_of walk.mode walk.defs e (at (table_of us walk.count) e)) top → Pushed (act_of walk.mode walk.defs e (at (table_of us walk.count) e)) e top st st'
             → Stands us ds st' n next × (left st' next < left st (Next.Down e top))
-        stepped p q = rw (p, q, s.held.first) (stepping (act_of walk.mode walk.defs e (at T e)) (acting room walk.node R.formed e walk.mode s.low))
+        stepped st' p q = rw p (stepping (act_of walk.mode walk.defs e (at (table_of us walk.count) e)) (rw s.held.first (acting room walk.node R.formed e walk.mode s.low)) st' q)
 
         -- what `down` leaves
-        pub down_going : {st' : List ℕ} {next : Next} → next ≡ down_of (act_of walk.mode walk.defs e (at (table_of us walk.count) e)) top → st' ≡ pushed (act_of walk.mode walk.defs e (at (table_of us walk.count) e)) e top st
+        pub down_going : (st' : List ℕ) {next : Next} → next ≡ down_of (act_of walk.mode walk.defs e (at (table_of us walk.count) e)) top → Pushed (act_of walk.mode walk.defs e (at (table_of us walk.count) e)) e top st st'
             → Going us ds st' n next
-        down_going p q = record { is = (stepped p q).0 }
+        down_going st' p q = record { is = (stepped st' p q).0 }
 
-        pub down_less : {st' : List ℕ} {next old : Next} → next ≡ down_of (act_of walk.mode walk.defs e (at (table_of us walk.count) e)) top → st' ≡ pushed (act_of walk.mode walk.defs e (at (table_of us walk.count) e)) e top st
+        pub down_less : (st' : List ℕ) {next old : Next} → next ≡ down_of (act_of walk.mode walk.defs e (at (table_of us walk.count) e)) top → Pushed (act_of walk.mode walk.defs e (at (table_of us walk.count) e)) e top st st'
             → old ≡ Next.Down e top → left st' next < left st old
-        down_less p q h = rw h (stepped p q).1
+        down_less st' p q h = rw h (stepped st' p q).1
 
     -- THE END
-    pub up_done : {us ds st : List ℕ} {n r : ℕ} → Ascends us ds st n r 0 → Left walk.defs walk.types us walk.classes ds (Made.Entry r n) (ruled walk.start T)
+    pub up_done : {us ds st : List ℕ} {n r : ℕ} → Ascends us ds st n r 0 → Left walk.defs walk.types us walk.classes ds (Std.Ok (record { at = r; count = n })) (ruled walk.start T)
     unfolding resume frames
     up_done s = record { answer = s.rest; long = s.held.long; longs = s.held.longs; ready = (s.held.ready, s.low) }
 
@@ -269,9 +271,6 @@ module _ (walk : Walk) where
       pub up_word : r < 4096
       up_word = omega (arith, s.low, s.held.ready.lent.fits)
 
-      pub up_inside : type_width * walk.count ≤ length us
-      up_inside = held_inside s.held
-
       sound : Sound walk.defs T n i top_frame
       unfolding Good frames
       sound = s.good.0
@@ -281,9 +280,9 @@ module _ (walk : Walk) where
       under = s.good.1
 
       halved_of : (f : Frame) → Sound walk.defs T n i f → Halved T f
-      halved_of (half k e) z = (z.2, z.3)
-      halved_of (alone k) z = tt
-      halved_of (joined k l) z = tt
+      halved_of (Frame.Half k e) z = (z.2, z.3)
+      halved_of (Frame.Alone k) z = tt
+      halved_of (Frame.Joined k l) z = tt
 
       pub up_halved : Halved (table_of us walk.count) top_frame
       up_halved = rw s.held.first (halved_of top_frame sound)
@@ -295,19 +294,20 @@ module _ (walk : Walk) where
         pub less : 1 + work walk.defs T (frames st i) < left st (Next.Up r (suc i))
 
       abbrev Turns : Then → Type 0
-      Turns (Then.Append k a b) = Appends k a b
-      Turns (Then.Second w p) = Descends us ds (set st i w) n p (suc i) × (left (set st i w) (Next.Down p (suc i)) < left st (Next.Up r (suc i)))
+      Turns (Then.Append x) = Appends x.kind x.a x.b
+      Turns (Then.Second f p) = Fit f × ((w : ℕ) → frame_of w ≡ f → Descends us ds (set st i w) n p (suc i) × (left (set st i w) (Next.Down p (suc i)) < left st (Next.Up r (suc i))))
 
       module _ (enough : 4096 ≤ walk.deep) where
         pub up_room : i < length st
         up_room = omega (arith, s.short, s.held.deep)
 
-        turning : (f : Frame) → top_frame ≡ f → Sound walk.defs T n i f → Turns (then_of T f r)
+        -- a word of the frame that waits for the second part
+        again : (k e : ℕ) → top_frame ≡ Frame.Half k e → Sound walk.defs T n i (Frame.Half k e) → (w : ℕ) → frame_of w ≡ Frame.Joined k r
+            → Descends us ds (set st i w) n (second (at T e)) (suc i) × (left (set st i w) (Next.Down (second (at T e)) (suc i)) < left st (Next.Up r (suc i)))
         unfolding frames resume work run Good
-        turning (half k e) q z =
+        again k e q z w word_is =
             let x = second_inner R.formed z.2 z.3 in
-            let w : ℕ = (k + 5) * 4096 + r in
-            let p : frames (set st i w) (suc i) ≡ joined k r ∷ frames st i = frames_set st i w up_room ∙ ap (λ g. g ∷ frames st i) (says_joined k r up_word z.0) in (
+            let p : frames (set st i w) (suc i) ≡ Frame.Joined k r ∷ frames st i = frames_set st i w up_room ∙ ap (λ g. g ∷ frames st i) word_is in (
               record {
                 held = set_held s.held i w;
                 low = x.low;
@@ -318,13 +318,17 @@ module _ (walk : Walk) where
               },
               omega (arith, ap (work walk.defs T) p, ap (cost walk.defs T) q),
             )
-        turning (alone k) q z =
+
+        turning : (f : Frame) → top_frame ≡ f → Sound walk.defs T n i f → Turns (then_of T f r)
+        unfolding frames resume work run Good
+        turning (Frame.Half k e) q z = ((z.0, z.1, up_word), again k e q z)
+        turning (Frame.Alone k) q z =
             record {
               new = new_one z.0 z.1 s.low;
               is = ap (λ g. onwards st i (run walk.mode room walk.node walk.defs T g (ok (table_of us n, r)))) (sym q) ∙ s.rest;
               less = omega (arith, ap (cost walk.defs T) q);
             }
-        turning (joined k l) q z =
+        turning (Frame.Joined k l) q z =
             record {
               new = new_two z.0 z.1 z.2 s.low;
               is = ap (λ g. onwards st i (run walk.mode room walk.node walk.defs T g (ok (table_of us n, r)))) (sym q) ∙ s.rest;
@@ -335,19 +339,22 @@ module _ (walk : Walk) where
         turned p = rw (p, s.held.first) (turning top_frame refl sound)
 
         -- down into the second part
-        module _ {t : Then} {w p top : ℕ} (h : t ≡ then_of (table_of us walk.count) top_frame r) (q : t ≡ Then.Second w p) (z : top ≡ suc i) where
-          pub up_second : Going us ds (set st i w) n (Next.Down p top)
-          up_second = record { is = rw z (subst Turns q (turned h)).0 }
+        module _ {t : Then} {f : Frame} {p : ℕ} (h : t ≡ then_of (table_of us walk.count) top_frame r) (q : t ≡ Then.Second f p) where
+          pub up_fit : Fit f
+          up_fit = (subst Turns q (turned h)).0
 
-          pub up_second_less : {old : Next} → old ≡ Next.Up r top → left (set st i w) (Next.Down p top) < left st old
-          up_second_less y = rw (y, z) (subst Turns q (turned h)).1
+          pub up_second : (w : ℕ) {top : ℕ} → frame_of w ≡ f → top ≡ suc i → Going us ds (set st i w) n (Next.Down p top)
+          up_second w word_is z = record { is = rw z ((subst Turns q (turned h)).1 w word_is).0 }
+
+          pub up_second_less : (w : ℕ) {top : ℕ} {old : Next} → frame_of w ≡ f → top ≡ suc i → old ≡ Next.Up r top → left (set st i w) (Next.Down p top) < left st old
+          up_second_less w word_is z y = rw (y, z) ((subst Turns q (turned h)).1 w word_is).1
 
         -- or on, with an entry that is appended
-        pub up_appends : {t : Then} {k a b : ℕ} → t ≡ then_of (table_of us walk.count) top_frame r → t ≡ Then.Append k a b → Appends k a b
+        pub up_appends : {t : Then} {x : Words.Entry} → t ≡ then_of (table_of us walk.count) top_frame r → t ≡ Then.Append x → Appends x.kind x.a x.b
         up_appends h q = subst Turns q (turned h)
 
       -- THE ENTRY is appended, as `grow::append` promises
-      module _ {k a b : ℕ} (x : Appends k a b) {vs es : List ℕ} {o : Made}
+      module _ {k a b : ℕ} (x : Appends k a b) {vs es : List ℕ} {o : Result Made Refusal}
           (adds : (E : Defs) (y : Entry) → New n k a b y → Ready E us ds n → Left E us vs ds es o (append (type_capacity (length us)) walk.node y (table_of us n))) where
         g : Left walk.defs us vs ds es o (append (type_capacity (length us)) walk.node (entry_of k a b) (table_of us n))
         g = adds walk.defs (entry_of k a b) x.new s.held.ready
@@ -355,10 +362,10 @@ module _ (walk : Walk) where
         one : onwards st i (append (type_capacity (length us)) walk.node (entry_of k a b) (table_of us n)) ≡ ruled walk.start T
         one = rw s.held.long x.is
 
-        pub up_full : {number place : ℕ} → o ≡ Made.Refused number place → Left walk.defs walk.types vs walk.classes es o (ruled walk.start T)
-        up_full {number} {place} p =
+        pub up_full : {e : Refusal} → o ≡ Std.Err e → Left walk.defs walk.types vs walk.classes es o (ruled walk.start T)
+        up_full {e} p =
             record {
-              answer = ap (λ (o : Made). answer_of o vs) p ∙ sym (resume_refused walk.mode room walk.node walk.defs T (frames st i) number place) ∙ ap (onwards st i) (sym (after_refused p g)) ∙ one;
+              answer = ap (λ (o : Result Made Refusal). answer_of o vs) p ∙ sym (resume_refused walk.mode room walk.node walk.defs T (frames st i) (number_of e.reason) e.place) ∙ ap (onwards st i) (sym (after_refused p g)) ∙ one;
               long = g.long ∙ s.held.long;
               longs = g.longs ∙ s.held.longs;
               ready = g.ready;
@@ -367,8 +374,8 @@ module _ (walk : Walk) where
         pub up_less : {top : ℕ} {old : Next} → top ≡ suc i → old ≡ Next.Up r top → 1 + work walk.defs T (frames st i) < left st old
         up_less z y = rw (y, z) x.less
 
-        more : {l m : ℕ} → o ≡ Made.Entry l m → Ascends vs es st m l i
-        more {l} {m} p =
+        more : {m : Made} → o ≡ Std.Ok m → Ascends vs es st m.count m.at i
+        more {m} p =
             let y = appended n walk.node (entry_of k a b) p g in
             let z = left_ready p g in
             record {
@@ -378,7 +385,7 @@ module _ (walk : Walk) where
                     long = g.long ∙ s.held.long;
                     longs = g.longs ∙ s.held.longs;
                     more = omega (arith, y.count, s.held.more);
-                    first = kept_table us vs n m (appended_grows y) walk.count s.held.more ∙ s.held.first;
+                    first = kept_table us vs n m.count (appended_grows y) walk.count s.held.more ∙ s.held.first;
                     deep = s.held.deep;
                   };
               low = z.1;
@@ -387,7 +394,7 @@ module _ (walk : Walk) where
               rest = ap (onwards st i) (sym (after_ok p g)) ∙ one;
             }
 
-        pub up_more : {l m : ℕ} → o ≡ Made.Entry l m → Going vs es st m (Next.Up l i)
+        pub up_more : {m : Made} → o ≡ Std.Ok m → Going vs es st m.count (Next.Up m.at i)
         up_more p = record { is = more p }
 
   -- WHERE IT STANDS, as the loop tells

@@ -1,23 +1,25 @@
 -- The stack of a walk over a type: what its words say, and what a step leaves.
 -- Assumes nothing.
-use Rattle.std.specs.Prelude.{cond, List, ℕ, suc, ◌+◌, ◌*◌, ◌-◌, ◌/◌, ◌%◌, ◌<◌, ltb, length, set}
+use Rattle.std.specs.Prelude.{◌≡◌, cond, List, ℕ, suc, ◌-◌, ◌/◌, ◌%◌, ◌<◌, ◌≤◌, ltb, length, set}
 use Rattle.meaning.specs.Types.{Entry, Table, at, empty, string, element, pair, union, star, plus, opt, name}
 use Rattle.acts.specs.declared.Act.{Act}
+use Rattle.walks.specs.declared.Frame.{Frame}
 use Rattle.walks.specs.declared.Next.{Next}
 use Rattle.walks.specs.declared.Then.{Then}
 
--- what is begun: an entry of kind k is to be appended
-pub data Frame : Type 0 where
-  -- for entry e, whose first part is being done
-  half : ℕ → ℕ → Frame
-  -- for a part that is being done
-  alone : ℕ → Frame
-  -- for a first part that answered l, and a second that is being done
-  joined : ℕ → ℕ → Frame
-
 -- the frame that a word says
 unfoldable pub frame_of : ℕ → Frame
-frame_of w = cond (ltb w 24576) (half (w / 4096) (w % 4096)) (cond (ltb w 36864) (alone (w / 4096)) (joined (w / 4096 - 5) (w % 4096)))
+frame_of w = cond (ltb w 24576) (Frame.Half (w / 4096) (w % 4096)) (cond (ltb w 36864) (Frame.Alone (w / 4096)) (Frame.Joined (w / 4096 - 5) (w % 4096)))
+
+-- the frame of entry e that is begun, where an entry of kind k is to be appended
+abbrev pub begun : ℕ → ℕ → Frame
+begun k e = cond (ltb k 6) (Frame.Half k e) (Frame.Alone k)
+
+-- a frame that a word can say
+abbrev pub Fit : Frame → Type 0
+Fit (Frame.Half k e) = (k < 6) × (e < 4096)
+Fit (Frame.Alone k) = (6 ≤ k) × (k < 9)
+Fit (Frame.Joined k l) = (4 ≤ k) × (k < 6) × (l < 4096)
 
 -- the second part of an entry that has two
 unfoldable pub second : Entry → ℕ
@@ -44,9 +46,9 @@ Paired (name d) = ⊥
 
 -- a frame that waits for a first part is of an entry that has two
 abbrev pub Halved : Table → Frame → Type 0
-Halved T (half k e) = (e < length T) × Paired (at T e)
-Halved T (alone k) = Unit {0}
-Halved T (joined k l) = Unit {0}
+Halved T (Frame.Half k e) = (e < length T) × Paired (at T e)
+Halved T (Frame.Alone k) = Unit {0}
+Halved T (Frame.Joined k l) = Unit {0}
 
 -- STEPS. Down, by what a rule does at entry e: where the walk stands then, and the words of its stack
 abbrev pub down_of : Act → ℕ → Next
@@ -54,13 +56,13 @@ down_of (Act.Answer r) top = Next.Up r top
 down_of (Act.Into p) top = Next.Down p top
 down_of (Act.First k a) top = Next.Down a (suc top)
 
-abbrev pub pushed : Act → ℕ → ℕ → List ℕ → List ℕ
-pushed (Act.Answer r) e top st = st
-pushed (Act.Into p) e top st = st
-pushed (Act.First k a) e top st = set st top (k * 4096 + e)
+abbrev pub Pushed : Act → ℕ → ℕ → List ℕ → List ℕ → Type 0
+Pushed (Act.Answer r) e top st us = us ≡ st
+Pushed (Act.Into p) e top st us = us ≡ st
+Pushed (Act.First k a) e top st us = (w : ℕ) × (us ≡ set st top w) × (frame_of w ≡ begun k e)
 
 -- what a frame does with an answer
 abbrev pub then_of : Table → Frame → ℕ → Then
-then_of T (half k e) l = Then.Second ((k + 5) * 4096 + l) (second (at T e))
-then_of T (alone k) r = Then.Append k r 0
-then_of T (joined k l) r = Then.Append k l r
+then_of T (Frame.Half k e) l = Then.Second (Frame.Joined k l) (second (at T e))
+then_of T (Frame.Alone k) r = Then.Append (record { kind = k; a = r; b = 0 })
+then_of T (Frame.Joined k l) r = Then.Append (record { kind = k; a = l; b = r })

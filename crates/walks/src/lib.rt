@@ -1,21 +1,29 @@
-// The typing rules prime, content, filter, child and U.q. Each answers an entry, appends what it names, and refuses 16 at its node. The first `used` of
-// `defs` are the definitions. prime, content and filter go from an entry to those that stand in it, and back: one loop, `walk`, does it for all three, with
-// what is begun on a lent stack. No entry comes twice on such a way, since past refusal 10 no name comes back to its definition: so 4,096 words are enough.
+// The typing rules prime, content, filter, child and U.q. Each answers an entry, appends what it names, and refuses 16 at its node. prime, content and
+// filter go from an entry to those that stand in it, and back: one loop, `walk`, does it for all three, with what is begun on a lent stack. No entry comes
+// twice on such a way, since past refusal 10 no name comes back to its definition: so 4,096 words are enough.
+// kept: each table is lent by itself, since the contracts of the crates above name each (`Ready`, `Left`)
 #![tactic(auto)]
 
-ghost use Rattle.std.specs.Prelude.{◌≡◌, ◌*◌, ◌<◌, ◌≤◌, length, take, get_or};
-ghost use Rattle.meaning.specs.Base.{type_width, type_capacity};
+ghost use Rattle.std.specs.Prelude.{◌≡◌, ◌<◌, ◌≤◌, length, get_or};
+ghost use Rattle.meaning.specs.Base.{type_capacity};
 ghost use Rattle.meaning.specs.Types.{Defs, at};
+ghost use Rattle.meaning.specs.Formed.{Formed};
 ghost use Rattle.meaning.specs.Shapes.{shape};
 ghost use Rattle.meaning.specs.Rules.{prime, content, filter, child_rule, times};
 ghost use Rattle.words.specs.Tables.{table_of};
 ghost use Rattle.classes.specs.Classes.{class_of};
 ghost use Rattle.grow.specs.Grow.{Ready, Left};
-ghost use Rattle.acts.specs.Acts.{Place, does, act_of};
-ghost use Rattle.walks.specs.Frames.{frame_of, Halved, down_of, pushed, then_of};
+ghost use Rattle.acts.specs.Acts.{does, act_of};
+ghost use Rattle.entries.specs.Says.{shown};
+ghost use Rattle.walks.specs.Frames.{frame_of, begun, Fit, second, Halved, down_of, Pushed, then_of};
 
 use acts::{Act, Mode};
+use classes::Class;
+use entries::Ty;
 use grow::Made;
+use refusals::Refusal;
+use tables::Types;
+use words::Entry;
 
 // Where a walk stands, with so many frames on its stack: down at an entry that is to be done, or up with an entry's answer.
 #[derive(Drop)]
@@ -24,76 +32,121 @@ enum Next {
     Up { at: usize, top: usize },
 }
 
+// What is begun, a word of the stack for each: an entry of this kind is to be appended.
+#[derive(Clone, Copy, Debug, PartialEq, Eq)]
+enum Frame {
+    // for entry e, whose first part is being done
+    Half { kind: u16, e: u16 },
+    // for a part that is being done
+    Alone { kind: u16 },
+    // for a first part that answered `left`, and a second that is being done
+    Joined { kind: u16, left: u16 },
+}
+
+// kept: a word for each frame, since the stack is a lent table of words (fixed memory)
+impl Frame {
+    // The frame of entry e, that is begun: a pair or a union (4, 5) has two parts, a star, plus or opt (6, 7, 8) one.
+    fn begun(kind: u16, e: u16) -> Frame
+        ensures { result ≡ begun kind e }
+    {
+        if kind < 6 {
+            Frame::Half { kind, e }
+        } else {
+            Frame::Alone { kind }
+        }
+    }
+
+    // A word that says it: 4096 times the kind, 5 more where a second part is being done, and the entry or the answer.
+    fn word(self) -> u16
+        requires { Fit self }
+        ensures { frame_of result ≡ self }
+    {
+        match self {
+            Frame::Half { kind, e } => kind * 4096 + e,
+            Frame::Alone { kind } => kind * 4096,
+            Frame::Joined { kind, left } => (kind + 5) * 4096 + left,
+        }
+    }
+
+    // The frame that a word says.
+    fn of_word(w: u16) -> Frame
+        ensures { result ≡ frame_of w }
+    {
+        let kind = w / 4096;
+        let x = w % 4096;
+        if w < 24576 {
+            return Frame::Half { kind, e: x };
+        }
+        if w < 36864 {
+            return Frame::Alone { kind };
+        }
+        Frame::Joined {
+            kind: kind - 5,
+            left: x,
+        }
+    }
+}
+
 // What a frame does with the answer that it waited for: append an entry, or change to a frame that waits for the second part.
 #[derive(Drop)]
 enum Then {
-    Append { kind: u16, a: u16, b: u16 },
-    Second { word: u16, part: usize },
+    Append(Entry),
+    Second { frame: Frame, part: usize },
 }
 
-// A step down at entry e of the first `count`. An entry that is begun becomes a frame: 4096 times the kind to append, and e.
-fn down(
-    mode: Mode,
-    types: &[u16],
-    defs: &[u16],
-    used: usize,
-    count: usize,
-    e: usize,
-    stack: &mut [u16],
-    top: usize,
-) -> Next
-    requires fact_1 { Place (take used defs.now) types.now count e }
-    requires fact_2 { top < length stack.old }
-    requires fact_3 { top < 4096 }
-    ensures fact_1 { result ≡ down_of (act_of mode (take used defs.now) e (at (table_of types.now count) e)) top }
-    ensures fact_2 { stack.new ≡ pushed (act_of mode (take used defs.now) e (at (table_of types.now count) e)) e top stack.old }
+// A step down at entry e. An entry that is begun becomes a frame.
+fn down(mode: Mode, types: &Types, defs: &[u16], e: usize, stack: &mut [u16], top: usize) -> Next
+    requires formed { Formed defs.now types.now }
+    requires low { e < length types.now }
+    requires room { top < length stack.old }
+    requires short { top < 4096 }
+    ensures next { result ≡ down_of (act_of mode defs.now e (at types.now e)) top }
+    ensures pushed { Pushed (act_of mode defs.now e (at types.now e)) e top stack.old stack.new }
 {
-    let act = acts::look(mode, types, defs, used, count, e);
+    let act = acts::look(mode, types, defs, e);
     match act {
-        Act::Answer(r) => {
-            return Next::Up { at: r, top };
-        }
-        Act::Into(p) => {
-            return Next::Down { at: p, top };
-        }
-        Act::First(kind, a) => {
-            stack[top] = kind * 4096 + e as u16;
-            let more = top + 1;
-            return Next::Down { at: a, top: more };
+        Act::Answer(at) => Next::Up { at, top },
+        Act::Into(at) => Next::Down { at, top },
+        Act::First(kind, at) => {
+            stack[top] = Frame::begun(kind, e as u16).word();
+            Next::Down { at, top: top + 1 }
         }
     }
 }
 
-// What the frame w does with the answer `at`. A pair or union that waited for its first part waits for its second, as 4096 times its kind and 5, and
-// the first part's answer; one that waited for its second is appended, and so is a star, plus or opt.
-fn over(types: &[u16], count: usize, w: u16, at: usize) -> Then
-    requires fact_1 { type_width * count ≤ length types.now }
-    requires fact_2 { Halved (table_of types.now count) (frame_of w) }
-    requires fact_3 { at < 4096 }
-    ensures { result ≡ then_of (table_of types.now count) (frame_of w) at }
+// The second part of an entry that has two.
+#[tactic(auto, unfolding(crate::specs::Frames::second))]
+fn second(x: Ty) -> usize
+    ensures { result ≡ second (shown x) }
 {
-    let kind = w / 4096;
-    let x = w % 4096;
-    if w < 24576 {
-        let e = grow::read(types, count, words::wide(x));
-        let word = (kind + 5) * 4096 + at as u16;
-        return Then::Second {
-            word,
-            part: words::wide(e.b),
-        };
+    match x {
+        Ty::Pair(_, b) | Ty::Union(_, b) => usize::from(b),
+        _ => 0,
     }
-    if w < 36864 {
-        return Then::Append {
+}
+
+// What a frame does with the answer `at`. A pair or union that waited for its first part waits for its second; one that waited for its second is
+// appended, and so is a star, plus or opt.
+fn over(types: &Types, frame: Frame, at: usize) -> Then
+    requires halved { Halved types.now frame }
+    requires small { at < 4096 }
+    ensures { result ≡ then_of types.now frame at }
+{
+    let at = at as u16;
+    match frame {
+        Frame::Half { kind, e } => {
+            let x = types.get(usize::from(e));
+            Then::Second {
+                frame: Frame::Joined { kind, left: at },
+                part: second(x),
+            }
+        }
+        Frame::Alone { kind } => Then::Append(Entry { kind, a: at, b: 0 }),
+        Frame::Joined { kind, left } => Then::Append(Entry {
             kind,
-            a: at as u16,
-            b: 0,
-        };
-    }
-    let before = kind - 5;
-    Then::Append {
-        kind: before,
-        a: x,
-        b: at as u16,
+            a: left,
+            b: at,
+        }),
     }
 }
 
@@ -103,42 +156,42 @@ fn walk(
     types: &mut [u16],
     classes: &mut [u16],
     defs: &[u16],
-    used: usize,
     count: usize,
     node: usize,
     e: usize,
     stack: &mut [u16],
-) -> Made
-    requires fact_1 { Ready (take used defs.now) types.old classes.old count × (e < count) }
-    requires fact_2 { 4096 ≤ length stack.old }
-    ensures { Left (take used defs.now) types.old types.new classes.old classes.new result (does mode (type_capacity (length types.old)) node (shape (take used defs.now) (table_of types.old count) e) (table_of types.old count)) }
+) -> Result<Made, Refusal>
+    requires ready { Ready defs.now types.old classes.old count × (e < count) }
+    requires enough { 4096 ≤ length stack.old }
+    ensures { Left defs.now types.old types.new classes.old classes.new result (does mode (type_capacity (length types.old)) node (shape defs.now (table_of types.old count) e) (table_of types.old count)) }
 {
     let mut n = count;
     let mut next = Next::Down { at: e, top: 0 };
     loop {
         match next {
             Next::Down { at, top } => {
-                next = down(mode, types, defs, used, count, at, stack, top);
+                let known = Types::new(types, count);
+                next = down(mode, &known, defs, at, stack, top);
             }
             Next::Up { at, top } => {
                 if top == 0 {
-                    return Made::Entry { at, count: n };
+                    return Ok(Made { at, count: n });
                 }
                 let i = top - 1;
-                let w = stack[i];
-                let then = over(types, count, w, at);
+                let known = Types::new(types, count);
+                let then = over(&known, Frame::of_word(stack[i]), at);
                 match then {
-                    Then::Second { word, part } => {
-                        stack[i] = word;
+                    Then::Second { frame, part } => {
+                        stack[i] = frame.word();
                         next = Next::Down { at: part, top };
                     }
-                    Then::Append { kind, a, b } => {
-                        let made = grow::append(types, classes, n, node, kind, a, b);
-                        let Made::Entry { at: x, count: m } = made else {
-                            return made;
+                    Then::Append(x) => {
+                        let made = grow::append(types, classes, n, node, x)?;
+                        n = made.count;
+                        next = Next::Up {
+                            at: made.at,
+                            top: i,
                         };
-                        n = m;
-                        next = Next::Up { at: x, top: i };
                     }
                 }
             }
@@ -151,17 +204,16 @@ pub fn prime(
     types: &mut [u16],
     classes: &mut [u16],
     defs: &[u16],
-    used: usize,
     count: usize,
     node: usize,
     e: usize,
     stack: &mut [u16],
-) -> Made
-    requires { (Ready (take used defs.now) types.old classes.old count × (e < count)) × (4096 ≤ length stack.old) }
-    ensures { Left (take used defs.now) types.old types.new classes.old classes.new result (prime (type_capacity (length types.old)) node (shape (take used defs.now) (table_of types.old count) e) (table_of types.old count)) }
+) -> Result<Made, Refusal>
+    requires { (Ready defs.now types.old classes.old count × (e < count)) × (4096 ≤ length stack.old) }
+    ensures { Left defs.now types.old types.new classes.old classes.new result (prime (type_capacity (length types.old)) node (shape defs.now (table_of types.old count) e) (table_of types.old count)) }
 {
     let mode = Mode::Prime;
-    walk(mode, types, classes, defs, used, count, node, e, stack)
+    walk(mode, types, classes, defs, count, node, e, stack)
 }
 
 // What a test word leaves of a type: all of it where the test is 0.
@@ -170,22 +222,21 @@ pub fn filter(
     types: &mut [u16],
     classes: &mut [u16],
     defs: &[u16],
-    used: usize,
     count: usize,
     node: usize,
     e: usize,
     stack: &mut [u16],
-) -> Made
-    requires fact_1 { Ready (take used defs.now) types.old classes.old count × (e < count) }
-    requires fact_2 { 4096 ≤ length stack.old }
-    ensures { Left (take used defs.now) types.old types.new classes.old classes.new result (filter (type_capacity (length types.old)) node (take used defs.now) test e (table_of types.old count)) }
+) -> Result<Made, Refusal>
+    requires ready { Ready defs.now types.old classes.old count × (e < count) }
+    requires enough { 4096 ≤ length stack.old }
+    ensures { Left defs.now types.old types.new classes.old classes.new result (filter (type_capacity (length types.old)) node defs.now test e (table_of types.old count)) }
 {
     let passes_all = test == 0;
     if passes_all {
-        return Made::Entry { at: e, count };
+        return Ok(Made { at: e, count });
     }
     let mode = Mode::Sift(test);
-    walk(mode, types, classes, defs, used, count, node, e, stack)
+    walk(mode, types, classes, defs, count, node, e, stack)
 }
 
 // The content of a type, and what a test word leaves of that.
@@ -194,22 +245,19 @@ pub fn child_rule(
     types: &mut [u16],
     classes: &mut [u16],
     defs: &[u16],
-    used: usize,
     count: usize,
     node: usize,
     e: usize,
     stack: &mut [u16],
-) -> Made
-    requires fact_1 { Ready (take used defs.now) types.old classes.old count × (e < count) }
-    requires fact_2 { 4096 ≤ length stack.old }
-    ensures { Left (take used defs.now) types.old types.new classes.old classes.new result (child_rule (type_capacity (length types.old)) node (take used defs.now) test e (table_of types.old count)) }
+) -> Result<Made, Refusal>
+    requires ready { Ready defs.now types.old classes.old count × (e < count) }
+    requires enough { 4096 ≤ length stack.old }
+    ensures { Left defs.now types.old types.new classes.old classes.new result (child_rule (type_capacity (length types.old)) node defs.now test e (table_of types.old count)) }
 {
     let mode = Mode::Content;
-    let inside = walk(mode, types, classes, defs, used, count, node, e, stack);
-    let Made::Entry { at, count: n } = inside else {
-        return inside;
-    };
-    filter(test, types, classes, defs, used, n, node, at, stack)
+    let inside = walk(mode, types, classes, defs, count, node, e, stack)?;
+    let n = inside.count;
+    filter(test, types, classes, defs, n, node, inside.at, stack)
 }
 
 // U.q: u itself for the class 1, else an opt, plus or star of it.
@@ -220,22 +268,16 @@ pub fn times(
     node: usize,
     u: usize,
     class: u16,
-) -> Made
+) -> Result<Made, Refusal>
     requires { (4096 ≤ length classes.old) × (u < 4096) }
     ensures { (D : Defs) → Ready D types.old classes.old count → u < count → Left D types.old types.new classes.old classes.new result (times (type_capacity (length types.old)) node u (class_of class) (table_of types.old count)) }
 {
-    match class {
-        2 => {
-            return grow::append(types, classes, count, node, 8, u as u16, 0);
-        }
-        3 => {
-            return grow::append(types, classes, count, node, 7, u as u16, 0);
-        }
-        4 => {
-            return grow::append(types, classes, count, node, 6, u as u16, 0);
-        }
-        _ => {
-            return Made::Entry { at: u, count };
-        }
-    }
+    let a = u as u16;
+    let x = match Class::of_word(class) {
+        Class::One => return Ok(Made { at: u, count }),
+        Class::Maybe => Ty::Opt(a),
+        Class::More => Ty::Plus(a),
+        Class::Any => Ty::Star(a),
+    };
+    grow::append(types, classes, count, node, x.words())
 }

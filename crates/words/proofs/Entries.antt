@@ -1,22 +1,15 @@
 -- The entry that three words make, kind by kind, and as a view; and what stands in a lent table where its words are read.
 -- Assumes nothing.
-use mathlib.Core.Path.{◌≡◌, refl, ap, sym, ◌∙◌}
+use mathlib.Core.Path.{◌≡◌, refl}
 use mathlib.Core.Logic.{◌≢◌}
-use mathlib.Core.List.{List}
 use mathlib.Core.Option.{none}
-use Prim.Native.Nat.{ℕ, ◌+◌, ◌*◌, ◌<◌}
+use Prim.Native.Nat.{ℕ, ◌<◌}
 use native.Mathlib.Omega.{arith}
 use native.Mathlib.Decide.{ℕ_discrete}
 use borrow.Author.Tests.{ne_eqb}
-use lib.ListN.{get_or}
-use Rattle.meaning.specs.Base.{At, find, type_width}
+use Rattle.meaning.specs.Base.{find}
 use Rattle.meaning.specs.Types as Types
 use Rattle.meaning.specs.Types.{Entry, entry_of, name_of, at}
-use Rattle.meaning.specs.Records.{node}
-use Rattle.meaning.proofs.Lists.{at_is}
-use Rattle.words.specs.declared.Entry as Words
-use Rattle.words.specs.Tables.{entry_at, node_in, table_of, code_of}
-use Rattle.words.proofs.Tables.{table_length, table_at, code_length, code_at}
 
 module _ {k : ℕ} (a b : ℕ) where
   pub kind_string : k ≡ 2 → entry_of k a b ≡ Types.string
@@ -126,23 +119,3 @@ plain_of h (is_other o) = refl
 
 pub plain : (k a b : ℕ) → k ≢ 9 → name_of (entry_of k a b) ≡ none
 plain k a b h = plain_of h (kinded k a b)
-
--- WORDS THAT ARE READ: what `read_entry` gives at an entry's place
-abbrev pub Read : List ℕ → ℕ → Words.Entry → Type 0
-Read ws e w = w ≡ record { kind = get_or ws (type_width * e) 0; a = get_or ws (type_width * e + 1) 0; b = get_or ws (type_width * e + 2) 0 }
-
-pub words_make : (ws : List ℕ) (e : ℕ) (w : Words.Entry) → Read ws e w → entry_of w.kind w.a w.b ≡ entry_at ws e
-words_make ws e w p = ap (λ (w : Words.Entry). entry_of w.kind w.a w.b) p
-
-pub entry_read : (ws : List ℕ) (n e : ℕ) → e < n → (w : Words.Entry) → Read ws e w → entry_of w.kind w.a w.b ≡ at (table_of ws n) e
-entry_read ws n e l w p = words_make ws e w p ∙ sym (table_at ws n e l)
-
--- what stands there
-entry_at_lem : (ws : List ℕ) (n e : ℕ) → e < n → At (table_of ws n) e (entry_at ws e)
-entry_at_lem ws n e l = rw (table_at ws n e l) at (at_is (table_of ws n) e Types.empty (omega (arith, table_length ws n)))
-
-pub entry_stands : (ws : List ℕ) (n e : ℕ) → e < n → (w : Words.Entry) → Read ws e w → At (table_of ws n) e (entry_of w.kind w.a w.b)
-entry_stands ws n e l w p = rw p (entry_at_lem ws n e l)
-
-pub node_at_lem : (ws : List ℕ) (n i : ℕ) → i < n → At (code_of ws n) i (node_in ws i)
-node_at_lem ws n i l = rw (code_at ws n i l) at (at_is (code_of ws n) i (node 0 0 0 0) (omega (arith, code_length ws n)))

@@ -1,13 +1,10 @@
 -- The test word by its three ranges; the kinds of conditions.
 -- Assumes nothing.
 use mathlib.Core.Path.{◌≡◌}
-use mathlib.Core.Bool.{Bool, true, false}
-use Prim.Native.Nat.{ℕ, ◌<◌, ◌≤◌}
-use borrow.Author.Tests.{ne_eqb, lt-leb, le-leb}
-use lib.Dec.{leb}
-use Rattle.meaning.specs.Kinds
+use mathlib.Core.Bool.{Bool, true}
+use Prim.Native.Nat.{ℕ}
+use borrow.Author.Tests.{ne_eqb}
 use Rattle.meaning.specs.Forests.{Head, is_text, is_labelled, passes}
-use Rattle.meaning.specs.Records.{is_condition}
 
 pub passes_all : (w : ℕ) (h : Head) → w ≡ 0 → true ≡ passes w h
 unfolding passes
@@ -20,10 +17,3 @@ passes_text w h b p q = rw p q
 pub passes_label : (w : ℕ) (h : Head) (b : Bool) → (w ≡ 0 → ⊥) → (w ≡ 65535 → ⊥) → b ≡ is_labelled w h → b ≡ passes w h
 unfolding passes
 passes_label w h b n m q = simp (passes, ne_eqb w 0 n, ne_eqb w 65535 m) q
-
--- THE KINDS OF CONDITIONS
-pub not_condition : (k : ℕ) → k < Kinds.condition·true → false ≡ is_condition k
-not_condition k l = rw (lt-leb Kinds.condition·true k l)
-
-pub condition_kind : (k : ℕ) → Kinds.condition·true ≤ k → leb k Kinds.condition·not ≡ is_condition k
-condition_kind k l = rw (le-leb Kinds.condition·true k l)

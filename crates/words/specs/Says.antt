@@ -1,15 +1,14 @@
 -- What the code's answers say in document 01's terms.
 -- Assumes nothing.
-use Rattle.std.proofs.Math.Option.{Option, none, some}
-use Rattle.std.specs.Prelude.{ℕ}
+use Rattle.std.proofs.Math.Option as Math
+use Rattle.std.specs.Prelude.{ℕ, Option, Some, None}
 use Rattle.meaning.specs.Forests as Forests
-use Rattle.words.specs.declared.Found.{Found}
 use Rattle.words.specs.declared.Head.{Head}
 
 -- what was looked for
-abbrev pub found : Found → Option ℕ
-found (Found.At n) = some n
-found Found.Nowhere = none
+abbrev pub found : Option ℕ → Math.Option ℕ
+found (Some n) = Math.some n
+found None = Math.none
 
 -- the top of a tree or of an atom
 abbrev pub head_of : Head → Forests.Head

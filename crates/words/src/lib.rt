@@ -3,26 +3,19 @@
 #![tactic(auto)]
 
 ghost use Rattle.std.specs.Prelude.{◌≡◌, [], ◌∷◌, ◌++◌, length, get_or, take, drop};
-ghost use Prim.Native.Nat.{◌+◌, ◌*◌, ◌≤◌, ◌<◌};
+ghost use Prim.Native.Nat.{◌+◌, ◌*◌, ◌/◌, ◌≤◌, ◌<◌, min};
 ghost use Rattle.meaning.specs.Base.{word, bytes_of, zeros, padded, type_width, code_width, type_capacity, code_capacity, work_capacity};
 ghost use Rattle.meaning.specs.Forests.{passes};
 ghost use Rattle.meaning.specs.Records.{is_condition};
 ghost use Rattle.words.specs.Tables.{stored};
 ghost use Rattle.words.specs.Says.{head_of};
 
-// The number that a word holds.
-pub fn wide(x: u16) -> usize
-    ensures { result ≡ x }
-{
-    x as usize
-}
-
 // The little-endian 16-bit word at a byte offset.
 pub fn word(s: &[u8], at: usize) -> u16
     requires { at + 2 ≤ length s.now }
     ensures { result ≡ word s.now at }
 {
-    (s[at] as u16) + 256 * (s[at + 1] as u16)
+    u16::from_le_bytes([s[at], s[at + 1]])
 }
 
 // A little-endian 16-bit word stored at a byte offset.
@@ -30,37 +23,38 @@ pub fn put_word(t: &mut [u8], at: usize, w: u16)
     requires { at + 2 ≤ length t.old }
     ensures { t.new ≡ stored t.old at (bytes_of (w ∷ [])) }
 {
-    t[at] = (w % 256) as u8;
-    t[at + 1] = (w / 256) as u8;
+    t[at..at + 2].copy_from_slice(&w.to_le_bytes());
 }
 
 // How many type entries, query nodes and forest entries a lent table has room for.
 pub fn type_room(t: &[u16]) -> usize
     ensures { result ≡ type_capacity (length t.now) }
 {
-    at_most(t.len() / 3, 4096)
+    room::<3, 4096>(t)
 }
 
 pub fn code_room(t: &[u16]) -> usize
     ensures { result ≡ code_capacity (length t.now) }
 {
-    at_most(t.len() / 4, 1024)
+    room::<4, 1024>(t)
 }
 
 pub fn work_room(t: &[u16]) -> usize
     ensures { result ≡ work_capacity (length t.now) }
 {
-    at_most(t.len() / 3, 8192)
+    room::<3, 8192>(t)
 }
 
-fn at_most(n: usize, most: usize) -> usize
-    ensures { result ≡ Prim.Native.Nat.min n most }
+// Rows of so many words, at most so many of them.
+fn room<const WIDTH: usize, const MOST: usize>(t: &[u16]) -> usize
+    requires { 0 < WIDTH }
+    ensures { result ≡ min (length t.now / WIDTH) MOST }
 {
-    if n < most { n } else { most }
+    (t.len() / WIDTH).min(MOST)
 }
 
 // The words of an entry: its kind and its fields.
-#[derive(Drop)]
+#[derive(Clone, Copy, Debug, PartialEq, Eq)]
 pub struct Entry {
     pub kind: u16,
     pub a: u16,
@@ -79,7 +73,7 @@ pub fn read_entry(t: &[u16], e: usize) -> Entry
 }
 
 // The words of a query node.
-#[derive(Drop)]
+#[derive(Clone, Copy, Debug, PartialEq, Eq)]
 pub struct Node {
     pub kind: u16,
     pub a: u16,
@@ -103,10 +97,7 @@ pub fn read_node(t: &[u16], n: usize) -> Node
 pub fn is_condition(kind: u16) -> bool
     ensures { result ≡ is_condition kind }
 {
-    if kind < 48 {
-        return false;
-    }
-    kind <= 53
+    matches!(kind, 48..=53)
 }
 
 // The words of an entry stored at its place.
@@ -136,11 +127,7 @@ pub fn put_node(t: &mut [u16], n: usize, kind: u16, a: u16, b: u16, c: u16)
 pub fn clear(t: &mut [u16])
     ensures { t.new ≡ zeros (length t.old) }
 {
-    let mut i = 0;
-    while i < t.len() {
-        t[i] = 0;
-        i += 1;
-    }
+    t.fill(0);
 }
 
 // Zeros in the first entries and in the first nodes of a table.
@@ -148,16 +135,14 @@ pub fn clear_entries(t: &mut [u16], n: usize)
     requires { type_width * n ≤ length t.old }
     ensures { t.new ≡ zeros (type_width * n) ++ drop (type_width * n) t.old }
 {
-    let end = 3 * n;
-    clear(&mut t[..end]);
+    t[..3 * n].fill(0);
 }
 
 pub fn clear_nodes(t: &mut [u16], n: usize)
     requires { code_width * n ≤ length t.old }
     ensures { t.new ≡ zeros (code_width * n) ++ drop (code_width * n) t.old }
 {
-    let end = 4 * n;
-    clear(&mut t[..end]);
+    t[..4 * n].fill(0);
 }
 
 // Zeros behind the first entries of a table.
@@ -165,19 +150,15 @@ pub fn clear_behind(t: &mut [u16], n: usize)
     requires { type_width * n ≤ length t.old }
     ensures { t.new ≡ padded (length t.old) (take (type_width * n) t.old) }
 {
-    let end = 3 * n;
-    clear(&mut t[end..]);
+    t[3 * n..].fill(0);
 }
 
 // Zeros in a buffer from an offset on.
 pub fn clear_bytes(t: &mut [u8], from: usize)
     ensures { t.new ≡ padded (length t.old) (take from t.old) }
 {
-    let mut i = from;
-    while i < t.len() {
-        t[i] = 0;
-        i += 1;
-    }
+    let start = from.min(t.len());
+    t[start..].fill(0);
 }
 
 // A stretch copied to the front of a table.
@@ -185,43 +166,14 @@ pub fn copy(from: &[u16], to: &mut [u16])
     requires { length from.now ≤ length to.old }
     ensures { to.new ≡ stored to.old 0 from.now }
 {
-    let mut i = 0;
-    while i < from.len() {
-        to[i] = from[i];
-        i += 1;
-    }
-}
-
-// A number that was looked for, or that there is none.
-#[derive(Clone, Copy)]
-pub enum Found {
-    At(usize),
-    Nowhere,
+    to[..from.len()].copy_from_slice(from);
 }
 
 // What a test word looks at: the top of a tree, or an atom of a type.
-#[derive(Drop)]
+#[derive(Clone, Copy, Debug, PartialEq, Eq)]
 pub enum Head {
     Text,
     Label(u16),
-}
-
-fn is_text(head: Head) -> bool
-    ensures { result ≡ Rattle.meaning.specs.Forests.is_text (head_of head) }
-{
-    match head {
-        Head::Text => true,
-        Head::Label(_) => false,
-    }
-}
-
-fn is_labelled(test: u16, head: Head) -> bool
-    ensures { result ≡ Rattle.meaning.specs.Forests.is_labelled test (head_of head) }
-{
-    match head {
-        Head::Text => false,
-        Head::Label(l) => test == l,
-    }
 }
 
 // Whether a tree or an atom passes a test word.
@@ -230,7 +182,10 @@ pub fn passes(test: u16, head: Head) -> bool
 {
     match test {
         0 => true,
-        1..=65534 => is_labelled(test, head),
-        65535 => is_text(head),
+        1..=65534 => match head {
+            Head::Text => false,
+            Head::Label(label) => test == label,
+        },
+        65535 => matches!(head, Head::Text),
     }
 }

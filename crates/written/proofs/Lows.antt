@@ -1,16 +1,12 @@
 -- The lowest of some nodes, found one after the other.
 -- Assumes nothing.
-use mathlib.Core.Path.{◌≡◌, refl, sym, ap, ◌∙◌}
-use mathlib.Core.Bool.{Bool, true, false, not}
+use mathlib.Core.Path.{◌≡◌, refl, ap, ◌∙◌}
 use mathlib.Core.List.{List, [], ◌∷◌, ◌++◌}
 use mathlib.Core.Option.{Option, none, some}
-use Prim.Native.Nat.{ℕ, suc, min, ◌≤◌, ◌<◌}
+use Prim.Native.Nat.{ℕ, min}
 use native.Mathlib.Omega.{arith}
-use borrow.Author.Tests.{not-true, not-false, lt-ltb, le-ltb}
 use Rattle.meaning.specs.Written.{least}
-use Rattle.words.specs.Says.{found}
-use Rattle.words.specs.declared.Found.{Found}
-use Rattle.written.specs.Says.{lowered, joined, owns, inside}
+use Rattle.written.specs.Says.{lowered, joined}
 
 pub joined_append : (o : Option ℕ) (ms ns : List ℕ) → joined o (ms ++ ns) ≡ joined (joined o ms) ns
 unfolding joined
@@ -34,39 +30,3 @@ pub joined_least : (ns : List ℕ) → joined none ns ≡ least ns
 unfolding joined least
 joined_least [] = refl
 joined_least (n ∷ ns) = joined_some n ns
-
--- THE LOWER of two
-module _ {low : Found} (node : ℕ) where
-  pub low_kept : {n : ℕ} → low ≡ Found.At n → n < node → some n ≡ lowered (found low) node
-  low_kept {n} e h = let p : n ≡ min n node = omega arith in rw e (ap some p)
-
-  pub low_new : {n : ℕ} → low ≡ Found.At n → node ≤ n → some node ≡ lowered (found low) node
-  low_new {n} e h = let p : node ≡ min n node = omega arith in rw e (ap some p)
-
-  pub low_first : low ≡ Found.Nowhere → some node ≡ lowered (found low) node
-  low_first e = rw e refl
-
--- a node that opens, or not
-module _ (o : Option ℕ) (b : Bool) (d n : ℕ) where
-  pub note_shut : not b ≡ true → o ≡ joined o (owns b d n)
-  unfolding joined
-  note_shut e = rw (not-true b e) refl
-
-  pub note_low : not b ≡ false → d < 100 → o ≡ joined o (owns b d n)
-  unfolding joined
-  note_low e h = ap (joined o) (sym (ap (λ (c : Bool). owns c d n) (not-false b e) ∙ ap (λ (c : Bool). elim c as (λ _. List ℕ) [ true ↦ [] | false ↦ n ∷ [] ]) (lt-ltb d 100 h)))
-
-  pub note_deep : {x : Option ℕ} → not b ≡ false → 100 ≤ d → x ≡ lowered o n → x ≡ joined o (owns b d n)
-  unfolding joined
-  note_deep e h p = p ∙ ap (joined o) (sym (ap (λ (c : Bool). owns c d n) (not-false b e) ∙ ap (λ (c : Bool). elim c as (λ _. List ℕ) [ true ↦ [] | false ↦ n ∷ [] ]) (le-ltb d 100 h)))
-
--- how many are open inside it
-module _ (b : Bool) (d : ℕ) where
-  pub inside_shut : not b ≡ true → d ≡ inside b d
-  inside_shut e = rw (not-true b e) refl
-
-  pub inside_more : {x : ℕ} → not b ≡ false → d < 100 → x ≡ suc d → x ≡ inside b d
-  inside_more e h p = p ∙ sym (ap (λ (c : Bool). inside c d) (not-false b e) ∙ ap (λ (c : Bool). elim c as (λ _. ℕ) [ true ↦ suc d | false ↦ d ]) (lt-ltb d 100 h))
-
-  pub inside_far : not b ≡ false → 100 ≤ d → d ≡ inside b d
-  inside_far e h = sym (ap (λ (c : Bool). inside c d) (not-false b e) ∙ ap (λ (c : Bool). elim c as (λ _. ℕ) [ true ↦ suc d | false ↦ d ]) (le-ltb d 100 h))

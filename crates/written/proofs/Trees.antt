@@ -36,7 +36,7 @@ module _ (C : List Node) (low : (n : ℕ) (x : Node) → At C n x → NodeLow C 
   low_at n l = low n (node_at C n) (at_is C n (node 0 0 0 0) l)
 
   -- one, and those that it names
-  sized : (n : ℕ) (x : Node) → NodeLow C n x → size_for (is_condition x.kind) (expand_cond n (λ i. cond_at C i) x) (expand_query n (λ i. cond_at C i) (λ i. query_at C i) x) ≡ 1 + sum_of size (uses_of x)
+  sized : (n : ℕ) (x : Node) → NodeLow C n x → size_for (is_condition x.kind) (expand_cond n (cond_at C) x) (expand_query n (cond_at C) (query_at C) x) ≡ 1 + sum_of size (uses_of x)
   unfolding expand_cond expand_query find forms named sum_of cond_nodes query_nodes
   sized n _ query·empty = refl
   sized n _ query·text = refl

@@ -1,14 +1,13 @@
 -- The words of a node on the stack: its number, how many are open around it, and that it is inside the table.
 -- Assumes nothing.
-use mathlib.Core.Path.{◌≡◌, refl, sym, subst}
-use mathlib.Core.Bool.{Bool, true, false}
+use mathlib.Core.Path.{◌≡◌, refl}
+use mathlib.Core.Bool.{Bool}
 use mathlib.Core.List.{List}
+use mathlib.Core.Logic.{◌⊎◌, inl, inr}
 use mathlib.Core.Option.{Option, none, some}
 use Prim.Native.Nat.{ℕ, zero, suc, ◌≤◌, ◌<◌}
 use native.Mathlib.Omega.{arith}
-use lib.Dec.{eqb}
 use lib.ListN.{length}
-use borrow.Author.Tests.{le-ltb}
 use Rattle.meaning.specs.Base.{find, otherwise}
 use Rattle.meaning.specs.Records.{Node, node_at}
 use Rattle.meaning.specs.Queries as Queries
@@ -17,7 +16,8 @@ use Rattle.meaning.proofs.Finding.{Rows, end, ◌&◌, find_row}
 use Rattle.meaning.proofs.Nodes.{InCond, InQuery}
 use Rattle.queries.proofs.Named.{top, top_cond}
 use Rattle.parts.specs.Items.{Item, piece, query, cond}
-use Rattle.parts.specs.Stacks.{node_of, item_for, item_of}
+use Rattle.parts.specs.Stacks.{item_of, Inside}
+use Rattle.parts.specs.declared.Part.{Part}
 use Rattle.written.proofs.Flat.{Whole, weigh, some_query, some_cond, Within}
 use Rattle.written.proofs.Deep.{node, depth}
 
@@ -75,16 +75,20 @@ heavy (piece k v) h = absurd h
 heavy (query m d q) h = omega (arith, some_query q)
 heavy (cond d p) h = omega (arith, some_cond p)
 
--- THREE WORDS of a node
-pub record Named (x : Item) (a b : ℕ) : Type 0 where
+-- A PART of a node: what is at it, how many are open around it, and its number
+pub record Named (x : Item) (d a : ℕ) : Type 0 where
   pub whole : Whole x
-  pub open_around : depth x ≡ b
+  pub open_around : depth x ≡ d
   pub number : node x ≡ a
 
-named_node : (C : List Node) (k a b : ℕ) (c : Bool) → Named (node_of c C k a b) a b
-named_node C k a b true = record { whole = tt; open_around = refl; number = top_cond_lem (length C) C a }
-named_node C k a b false = record { whole = tt; open_around = refl; number = top_query (length C) C a }
+-- a part that is a query or a condition of a node
+abbrev pub IsOf : Part → ℕ → ℕ → Type 0
+IsOf x d a = ((m : Bool) × (x ≡ Part.Query m d a)) ⊎ (x ≡ Part.Cond d a)
 
-pub named : (C : List Node) (k a b : ℕ) → 30 ≤ k → Named (item_of C k a b) a b
-named C k a b h =
-    subst (λ (c : Bool). Named (item_for c C k a b) a b) (sym (le-ltb k 30 h)) (named_node C k a b (eqb k 32))
+pub named : (C : List Node) {x y : Part} {d a : ℕ} → x ≡ y → IsOf y d a → Named (item_of C x) d a
+named C {d = d} {a = a} e (inl h) = rw (e, h.1) (record { whole = tt; open_around = refl; number = top_query (length C) C a })
+named C {d = d} {a = a} e (inr h) = rw (e, h) (record { whole = tt; open_around = refl; number = top_cond_lem (length C) C a })
+
+pub inside_named : {nodes : ℕ} {x y : Part} {d a : ℕ} → x ≡ y → IsOf y d a → a < nodes → Inside nodes x
+inside_named e (inl h) l = rw (e, h.1) l
+inside_named e (inr h) l = rw (e, h) l

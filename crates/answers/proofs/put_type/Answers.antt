@@ -1,25 +1,23 @@
--- `answers::put_type` meets its contract, for two fields and for one.
+-- `answers::put_type` meets its contract: a record with no field, with one and with two.
 -- Assumes nothing.
 use native.Mathlib.Omega.{arith}
-use Rattle.answers.proofs.Fields.{two_length, one_length, two_put, one_put}
+use Rattle.answers.proofs.Fields.{none_long, one_long, two_long, none_put, one_put, two_put}
 use Rattle.answers.proofs.put_type.Goals as goal
 
 pub put_start-requires : goal.put_start-requires
-put_start-requires c =
-    omega (arith, c.requires.fact_2, two_length c.requires.fact_1 c.args.a c.args.b c.if-kind-lt6.true)
+put_start-requires c = omega (arith, none_long c.in-Empty.is)
 
-pub put_word-requires : goal.put_word-requires
-put_word-requires c =
-    omega (arith, c.requires.fact_2, two_length c.requires.fact_1 c.args.a c.args.b c.if-kind-lt6.true, c.put_start.auto.answer)
+pub put_one-requires : goal.put_one-requires
+put_one-requires c = omega (arith, one_long c.in-Star.is)
 
-pub returns-then-kind-lt6 : goal.returns-then-kind-lt6
-returns-then-kind-lt6 c =
-    two_put c.requires.fact_1 _ _ c.if-kind-lt6.true c.put_start.ensures c.put_word.ensures (omega (arith, c.requires.fact_2, two_length c.requires.fact_1 c.args.a c.args.b c.if-kind-lt6.true, c.put_start.auto.answer))
+pub put_two-requires : goal.put_two-requires
+put_two-requires c = omega (arith, two_long c.in-Element.is)
 
-pub put_start-requires-2 : goal.put_start-requires-2
-put_start-requires-2 c =
-    omega (arith, c.requires.fact_2, one_length c.requires.fact_1 c.args.a c.args.b c.if-kind-lt6.false)
+pub returns-in-Empty : goal.returns-in-Empty
+returns-in-Empty c = none_put c.kind-kind.ensures c.in-Empty.is c.put_start.ensures
 
-pub returns : goal.returns
-returns c =
-    one_put c.requires.fact_1 _ _ c.if-kind-lt6.false c.put_start-2.ensures
+pub returns-in-Star : goal.returns-in-Star
+returns-in-Star c = one_put c.kind-kind.ensures c.in-Star.is c.put_one.ensures
+
+pub returns-in-Element : goal.returns-in-Element
+returns-in-Element c = two_put c.kind-kind.ensures c.in-Element.is c.put_two.ensures

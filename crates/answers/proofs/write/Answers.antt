@@ -31,7 +31,7 @@ overflow_cast-res c =
 
 pub put_file-requires : goal.put_file-requires
 put_file-requires c =
-    record { fact_1 = c.requires; fact_2 = omega (arith, file_length c.requires, c.types_size.ensures, c.if-answer-needed.false) }
+    record { ready = c.requires; room = omega (arith, file_length c.requires, c.types_size.ensures, c.if-answer-needed.false) }
 
 pub returns : goal.returns
 returns c =

@@ -1,18 +1,19 @@
--- `atoms::mark_atoms` meets its contract: so many entries have their marks (`Marking`); the measure is how many have none yet. Assumes nothing.
+-- `atoms::mark_atoms` meets its contract: so many entries have their marks (`Marking`). Assumes nothing.
+use native.Mathlib.Omega.{arith}
 use Rattle.atoms.proofs.Marking.{marking_none, marking_more, marking_all, parts_inside}
 use borrow.Author.Rules.{rules}
 use Rattle.atoms.proofs.mark_atoms.Goals as goal
 
 pub loop-e-init : goal.loop-e-init
-loop-e-init c = marking_none _ _ _
+loop-e-init c = marking_none _ _
 
-pub mark-m-requires : goal.mark-m-requires
-mark-m-requires c =
-    parts_inside _ c.read_entry-x.result c.requires.fact_1 c.read_entry-x.ensures c.loop-e-test.true (search rules)
+pub has_only_atoms-requires : goal.has_only_atoms-requires
+has_only_atoms-requires c =
+    parts_inside _ _ c.requires.typed c.get.ensures (omega (arith, c.len-e-end.ensures)) (search rules)
 
 pub loop-e-preserved : goal.loop-e-preserved
 loop-e-preserved c =
-    marking_more c.read_entry-x.result c.mark-m.result c.loop-e.invariant c.loop-e-test.true c.requires.fact_2 c.read_entry-x.ensures c.mark-m.ensures
+    marking_more _ c.has_only_atoms.result c.loop-e.invariant (omega (arith, c.len-e-end.ensures)) c.requires.room c.get.ensures c.has_only_atoms.ensures
 
 pub returns : goal.returns
-returns c = marking_all c.loop-e.invariant c.loop-e-test.false
+returns c = marking_all c.loop-e.invariant (omega (arith, c.len-e-end.ensures))

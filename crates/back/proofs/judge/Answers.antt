@@ -1,25 +1,18 @@
 -- `back::judge` meets its contract: 8, then what the check of types and definitions answers. Assumes nothing.
-use mathlib.Core.Path.{ap, sym, ◌∙◌}
-use Rattle.guard.specs.Says.{outcome}
-use Rattle.back.proofs.Judging.{not_ended, ended_checked}
+use Rattle.std.proofs.lemmas.Result.{err_from_is_err_and}
+use Rattle.back.proofs.Judging.{no_result, not_checked, checked}
 use Rattle.back.proofs.judge.Goals as goal
 
-pub returns-then-not-ended : goal.returns-then-not-ended
-returns-then-not-ended c =
-    not_ended c.args.bytes c.args.types.now c.args.count c.args.given c.if-not-ended.true
-
 pub check_types-requires : goal.check_types-requires
-check_types-requires c =
-    record { fact_1 = c.requires.given; fact_2 = c.requires.few }
+check_types-requires c = rw c.new-known.ensures (record { given = c.requires.given; few = c.requires.few })
 
-pub returns-in-Sound : goal.returns-in-Sound
-returns-in-Sound c =
-    ended_checked c.args.bytes c.args.types.now c.args.count c.args.given _ c.if-not-ended.false (sym (ap outcome c.in-Sound.is) ∙ c.check_types.ensures)
+pub returns-in_default : goal.returns-in_default
+returns-in_default c = no_result _ _ _ _ c.in_default.is
 
-pub returns-in-Undefined : goal.returns-in-Undefined
-returns-in-Undefined c =
-    ended_checked c.args.bytes c.args.types.now c.args.count c.args.given _ c.if-not-ended.false (sym (ap outcome c.in-Undefined.is) ∙ c.check_types.ensures)
+pub returns-in_err-check_types : goal.returns-in_err-check_types
+returns-in_err-check_types c =
+    let p = err_from_is_err_and c.from_residual.result c.from_residual.ensures.1 in
+    rw (p.1, p.2) (not_checked _ _ _ _ c.in-Some.is _ (rw c.new-known.ensures at c.in_err-check_types.ensures))
 
-pub returns-in-Circle : goal.returns-in-Circle
-returns-in-Circle c =
-    ended_checked c.args.bytes c.args.types.now c.args.count c.args.given _ c.if-not-ended.false (sym (ap outcome c.in-Circle.is) ∙ c.check_types.ensures)
+pub returns : goal.returns
+returns c = rw c.from.ensures (checked _ _ _ _ c.in-Some.is (rw c.new-known.ensures at c.in_ok-check_types.ensures))

@@ -1,26 +1,14 @@
 -- `conditions::close` meets its contract.
 -- Assumes nothing.
 use mathlib.Core.Path.{refl}
+use Rattle.std.proofs.lemmas.Result.{err_from_is_err_and}
 use Rattle.conditions.proofs.Resuming.{closes_on, closes_not}
-use native.Mathlib.Omega.{arith}
 use Rattle.conditions.proofs.close.Goals as goal
 
-pub expect-went-requires : goal.expect-went-requires
-expect-went-requires c =
-    record { fact_1 = c.requires.fact_1; fact_2 = omega arith }
+pub returns-in_err-next : goal.returns-in_err-next
+returns-in_err-next c =
+    let p = err_from_is_err_and c.from_residual.result c.from_residual.ensures.1 in
+    rw (p.1, p.2) (closes_not c.in_err-next.ensures)
 
-pub overflow_sub-nodes : goal.overflow_sub-nodes
-overflow_sub-nodes c =
-    c.requires.fact_4
-
-pub made-requires : goal.made-requires
-made-requires c =
-    (c.requires.fact_2, c.requires.fact_3)
-
-pub returns-in-To : goal.returns-in-To
-returns-in-To c =
-    closes_on c.expect-went.ensures c.in-To.is refl c.made.ensures
-
-pub returns-in-Refused : goal.returns-in-Refused
-returns-in-Refused c =
-    closes_not c.expect-went.ensures c.in-Refused.is
+pub returns : goal.returns
+returns c = closes_on c.in_ok-next.ensures refl c.made.ensures

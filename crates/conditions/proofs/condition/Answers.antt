@@ -1,17 +1,13 @@
 -- `conditions::condition` meets its contract.
 -- Assumes nothing.
-use Rattle.conditions.proofs.Going.{first_moves, conditions}
-use native.Mathlib.Omega.{arith}
+use Rattle.std.proofs.lemmas.Result.{err_from_is_err_and}
+use Rattle.conditions.proofs.Going.{conditions, conditions_not}
 use Rattle.conditions.proofs.condition.Goals as goal
 
-pub begin-first-requires : goal.begin-first-requires
-begin-first-requires c =
-    record { fact_1 = c.requires.fact_1; fact_2 = c.requires.fact_3; fact_3 = c.requires.fact_4 }
-
-pub run-requires : goal.run-requires
-run-requires c =
-    record { fact_1 = first_moves c.begin-first.ensures c.requires.fact_1; fact_2 = c.begin-first.ensures.room c.requires.fact_2; fact_3 = omega (arith, c.begin-first.auto.code, c.requires.fact_3); fact_4 = omega arith }
+pub returns-in_err-first : goal.returns-in_err-first
+returns-in_err-first c =
+    let p = err_from_is_err_and c.from_residual.result c.from_residual.ensures.1 in
+    rw (p.1, p.2) (conditions_not c.in_err-first.ensures c.requires.inside)
 
 pub returns : goal.returns
-returns c =
-    conditions c.begin-first.ensures c.requires.fact_1 c.run.ensures
+returns c = conditions c.in_ok-first.ensures c.requires.inside c.run.ensures

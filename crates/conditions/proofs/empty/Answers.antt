@@ -1,16 +1,13 @@
 -- `conditions::empty` meets its contract.
 -- Assumes nothing.
+use Rattle.std.proofs.lemmas.Result.{err_from_is_err_and}
 use Rattle.conditions.proofs.Leaves.{empty_on, empty_not}
 use Rattle.conditions.proofs.empty.Goals as goal
 
-pub made-requires : goal.made-requires
-made-requires c =
-    (c.requires.fact_2, c.requires.fact_3)
+pub returns-in_err-v : goal.returns-in_err-v
+returns-in_err-v c =
+    let p = err_from_is_err_and c.from_residual.result c.from_residual.ensures.1 in
+    rw (p.1, p.2) (empty_not _ _ c.in_err-v.ensures)
 
-pub returns-in-Number : goal.returns-in-Number
-returns-in-Number c =
-    empty_on c.variable_at-got.ensures c.in-Number.is c.made.ensures
-
-pub returns-in-Refused : goal.returns-in-Refused
-returns-in-Refused c =
-    empty_not c.variable_at-got.ensures c.in-Refused.is
+pub returns : goal.returns
+returns c = empty_on _ _ c.in_ok-v.ensures c.made.ensures

@@ -1,20 +1,23 @@
 -- `conditions::equal` meets its contract.
 -- Assumes nothing.
-use Rattle.meaning.specs.Texts.{variable_at}
-use Rattle.conditions.specs.Frames.{equal_to, equal_at}
-use Rattle.conditions.proofs.Acting.{got_inside, leaf_got, leaf_not_got}
+use Rattle.std.proofs.lemmas.Result.{err_from_is_err_and}
+use Rattle.conditions.proofs.Leaves.{equal_not, equal_no_sign, equal_no_second, equal_both}
 use Rattle.conditions.proofs.equal.Goals as goal
 
-pub equal_to-requires : goal.equal_to-requires
-equal_to-requires c =
-    record { fact_1 = (got_inside (variable_at _) c.variable_at-got.ensures c.in-Number.is).1; fact_2 = c.requires.fact_2; fact_3 = c.requires.fact_3 }
+pub returns-in_err-v : goal.returns-in_err-v
+returns-in_err-v c =
+    let p = err_from_is_err_and c.from_residual.result c.from_residual.ensures.1 in
+    rw (p.1, p.2) (equal_not _ _ c.in_err-v.ensures)
 
-pub returns-in-Number : goal.returns-in-Number
-unfolding equal_at
-returns-in-Number c =
-    leaf_got (variable_at _) c.variable_at-got.ensures _ _ (equal_to _) c.in-Number.is c.equal_to.ensures
+pub returns-in_err-behind : goal.returns-in_err-behind
+returns-in_err-behind c =
+    let p = err_from_is_err_and c.from_residual-in_err-behind.result c.from_residual-in_err-behind.ensures.1 in
+    rw (p.1, p.2) (equal_no_sign _ _ c.in_ok-v.ensures c.in_err-behind.ensures)
 
-pub returns-in-Refused : goal.returns-in-Refused
-unfolding equal_at
-returns-in-Refused c =
-    leaf_not_got (variable_at _) c.variable_at-got.ensures _ _ (equal_to _) _ c.in-Refused.is
+pub returns-in_err-w : goal.returns-in_err-w
+returns-in_err-w c =
+    let p = err_from_is_err_and c.from_residual-in_err-w.result c.from_residual-in_err-w.ensures.1 in
+    rw (p.1, p.2) (equal_no_second _ _ c.in_ok-v.ensures c.in_ok-behind.ensures c.in_err-w.ensures)
+
+pub returns : goal.returns
+returns c = equal_both _ _ c.in_ok-v.ensures c.in_ok-behind.ensures c.in_ok-w.ensures c.made.ensures

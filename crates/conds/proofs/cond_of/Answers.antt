@@ -1,4 +1,5 @@
 -- `conds::cond_of` meets its contract: one row for each kind, and all others at once. Assumes nothing.
+use borrow.Author.Rules.{rules}
 use mathlib.Core.Path.{refl}
 use Rattle.meaning.specs.Base.{find}
 use Rattle.meaning.specs.Kinds
@@ -27,4 +28,5 @@ unfolding expand_cond find
 returns-in-53 c = λ n d. says_kind n c.args.a c.args.b d {j = Kinds.condition·not} c.in-53.is (record { is = λ f. refl })
 
 pub returns-in_default : goal.returns-in_default
-returns-in_default c = λ n d. says_rest n _ _ d _ c.in_default.in_default-own.rest.0.0.0.0.1 c.in_default.in_default-own.rest.0.0.0.1 c.in_default.in_default-own.rest.0.0.1 c.in_default.in_default-own.rest.0.1 c.in_default.in_default-own.rest.1
+returns-in_default c =
+    λ n d. says_rest n _ _ d _ (search rules) (search rules) (search rules) (search rules) (search rules)

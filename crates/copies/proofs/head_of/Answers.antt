@@ -8,6 +8,6 @@ pub returns-then-kind-eq64 : goal.returns-then-kind-eq64
 unfolding head_in
 returns-then-kind-eq64 c = simp (head_in, eq-eqb _ _ c.if-kind-eq64.true)
 
-pub returns : goal.returns
+pub returns-else-kind-eq64 : goal.returns-else-kind-eq64
 unfolding head_in
-returns c = simp (head_in, ne_eqb _ _ c.if-kind-eq64.false)
+returns-else-kind-eq64 c = simp (head_in, ne_eqb _ _ c.if-kind-eq64.false)

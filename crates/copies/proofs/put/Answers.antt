@@ -8,7 +8,7 @@ use mathlib.Core.Bool.{not}
 use Rattle.copies.proofs.put.Goals as goal
 
 pub returns-then-not-passes : goal.returns-then-not-passes
-returns-then-not-passes c = λ f e. copied_as (select_not c.args.test f e c.requires.fact_1 c.head_of-head.ensures c.passes.ensures (ap not c.if-not-passes.true)) (done (filled_none c.requires.fact_2))
+returns-then-not-passes c = λ f e. copied_as (select_not c.args.test f e c.requires.long c.head_of-head.ensures c.passes.ensures (ap not c.if-not-passes.true)) (done (filled_none c.requires.blank))
 
 pub returns : goal.returns
-returns c = λ f e. copied_as (select_so c.args.test f e c.requires.fact_1 c.head_of-head.ensures c.passes.ensures (ap not c.if-not-passes.false)) (c.place.ensures (first f) e)
+returns c = λ f e. copied_as (select_so c.args.test f e c.requires.long c.head_of-head.ensures c.passes.ensures (ap not c.if-not-passes.false)) (c.place.ensures (first f) e)

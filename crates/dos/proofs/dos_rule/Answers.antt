@@ -1,17 +1,34 @@
 -- `dos::dos_rule` meets its contract: the atoms that are kept are those below the entry. Assumes nothing.
 use native.Mathlib.Omega.{arith}
-use Rattle.dos.proofs.Uniting.{next_low}
+use Rattle.words.proofs.Tables.{table_length}
+use Rattle.reach.proofs.Atoms.{next_low}
 use Rattle.dos.proofs.Rule.{dos_none, dos_some}
 use Rattle.dos.proofs.dos_rule.Goals as goal
 
-pub returns-then-x-count : goal.returns-then-x-count
-returns-then-x-count c =
-    λ D R given. dos_none _ _ R given c.reach.ensures c.next-x.ensures c.if-x-count.true
+pub new-known-requires : goal.new-known-requires
+new-known-requires c = omega (arith, c.requires.ready.lent.fits)
 
-pub join-requires : goal.join-requires
-join-requires c =
-    record { fact_1 = (c.requires.fact_1.0, c.requires.fact_1.1); fact_2 = next_low c.next-x.ensures c.if-x-count.false; fact_3 = omega (arith, c.requires.fact_3, c.reach.auto) }
+pub reach-requires-clause-formed : goal.reach-requires-clause-formed
+reach-requires-clause-formed c = rw c.new-known.ensures c.requires.ready.formed
+
+pub reach-requires-clause-low : goal.reach-requires-clause-low
+reach-requires-clause-low c = rw (c.new-known.ensures, table_length) c.requires.low
+
+pub reach-requires-clause-long : goal.reach-requires-clause-long
+reach-requires-clause-long c = rw (c.new-known.ensures, table_length) c.requires.marked
+
+pub next-first-requires : goal.next-first-requires
+next-first-requires c = rw (c.new-known.ensures, table_length) (omega (arith, c.requires.marked, c.reach.auto.marks))
+
+pub join-requires-clause-low : goal.join-requires-clause-low
+join-requires-clause-low c = rw (c.new-known.ensures, table_length) at (next_low c.in-Some.ensures)
+
+pub join-requires-clause-marked : goal.join-requires-clause-marked
+join-requires-clause-marked c = omega (arith, c.requires.marked, c.reach.auto.marks)
+
+pub returns-in_default : goal.returns-in_default
+returns-in_default c = dos_none _ _ _ _ c.requires.ready c.new-known.ensures c.reach.ensures c.in_default.ensures
 
 pub returns : goal.returns
 returns c =
-    λ D R given. dos_some _ _ R given c.reach.ensures c.next-x.ensures (next_low c.next-x.ensures c.if-x-count.false) (c.join.ensures D R)
+    dos_some _ _ _ _ c.requires.ready c.new-known.ensures c.reach.ensures c.in-Some.ensures (c.join.ensures _ c.requires.ready)

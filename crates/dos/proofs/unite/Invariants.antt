@@ -8,9 +8,9 @@ use Rattle.grow.specs.Grow.{Ready}
 use Rattle.dos.proofs.Uniting.{Uniting}
 use Rattle.dos.proofs.unite.Given as goal
 
-abbrev pub invariant-loop-count : goal.invariant-loop-count
-invariant-loop-count l =
-    (D : Defs) → Ready D l.initial.types l.initial.classes l.count → Uniting D l.initial.types l.initial.classes l.count (picked l.test (table_of l.initial.types l.count) (marks_of l.count l.marks)) l.node l.x l.types l.classes l.u l.n l.i
+abbrev pub invariant-loop-y : goal.invariant-loop-y
+invariant-loop-y l =
+    (D : Defs) → Ready D l.initial.types l.initial.classes l.count → Uniting D l.initial.types l.initial.classes l.count (picked l.test (table_of l.initial.types l.count) (marks_of l.count l.marks)) l.node l.x l.types l.classes l.made.at l.made.count l.i
 
-abbrev pub decreases-loop-count : goal.decreases-loop-count
-decreases-loop-count l = l.count - l.i
+abbrev pub decreases-loop-y : goal.decreases-loop-y
+decreases-loop-y l = l.count - l.i

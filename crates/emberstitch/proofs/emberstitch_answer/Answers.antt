@@ -4,8 +4,8 @@ use Rattle.emberstitch.proofs.emberstitch_answer.Goals as goal
 
 pub number_of-requires : goal.number_of-requires
 number_of-requires c =
-    job_small c.answer_job-answered.ensures
+    job_small c.answer_job.ensures
 
 pub returns : goal.returns
 returns c =
-    job_called c.answer_job-answered.ensures c.number_of.ensures
+    job_called c.answer_job.ensures c.number_of.ensures

@@ -1,11 +1,8 @@
 -- `guard::lowest_circle` meets its contract: the lowest from here on is the lowest (`Seeking`). Assumes nothing.
-use Prim.Native.Nat.{◌-◌}
+use lib.ListN.{length}
 use Rattle.meaning.proofs.Searches.{Seeking}
 use Rattle.guard.specs.Sets.{bit_at}
 use Rattle.guard.proofs.lowest_circle.Given as goal
 
 abbrev pub invariant-loop-d : goal.invariant-loop-d
-invariant-loop-d l = Seeking (λ i. bit_at l.reach i i) l.used l.d
-
-abbrev pub decreases-loop-d : goal.decreases-loop-d
-decreases-loop-d l = l.used - l.d
+invariant-loop-d l = Seeking (λ i. bit_at l.reach i i) (length l.reach) l.d

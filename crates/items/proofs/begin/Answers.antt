@@ -1,59 +1,49 @@
--- `items::begin` meets its contract: by the first token.
+-- `items::begin` meets its contract.
 -- Assumes nothing.
-use mathlib.Core.Path.{refl}
+use mathlib.Core.Path.{refl, ap}
+use native.Mathlib.Omega.{arith}
+use Rattle.tokens.specs.declared.Token.{Token}
+use Rattle.tokens.specs.Says.{kind_of}
+use Rattle.tokens.proofs.Numbers.{other_kind, other_number}
 use Rattle.items.proofs.Items.{token_on}
 use Rattle.items.proofs.Begins.{begins_element, begins_variable, begins_text, begins_for, begins_let, begins_when, begins_group, begins_not}
-use native.Mathlib.Omega.{arith}
 use Rattle.items.proofs.begin.Goals as goal
 
-pub returns-then-kind-eq2 : goal.returns-then-kind-eq2
-returns-then-kind-eq2 c =
-    begins_element _ _ c.token_at-t.ensures c.kind_of-kind.ensures c.if-kind-eq2.true (c.element_item.ensures _)
+pub bound_item-requires-clause-inside : goal.bound_item-requires-clause-inside
+bound_item-requires-clause-inside c = (token_on _ _ c.token_at-t.ensures refl c.requires.inside (omega (arith, ap kind_of c.in-For.is))).1
 
-pub bound_item-requires : goal.bound_item-requires
-bound_item-requires c =
-    record { fact_1 = (token_on _ _ c.token_at-t.ensures c.kind_of-kind.ensures c.requires.fact_1 (omega (arith, c.if-kind-eq3.true))).1; fact_2 = c.requires.fact_3; fact_3 = record { is = refl; sign_is = refl } }
+pub bound_item-requires-in-Let-clause-inside : goal.bound_item-requires-in-Let-clause-inside
+bound_item-requires-in-Let-clause-inside c = (token_on _ _ c.token_at-t.ensures refl c.requires.inside (omega (arith, ap kind_of c.in-Let.is))).1
 
-pub returns-then-kind-eq3 : goal.returns-then-kind-eq3
-returns-then-kind-eq3 c =
-    begins_for _ _ c.token_at-t.ensures c.kind_of-kind.ensures c.requires.fact_1 c.if-kind-eq3.true (c.bound_item.ensures _)
+pub when_item-requires-clause-inside : goal.when_item-requires-clause-inside
+when_item-requires-clause-inside c = (token_on _ _ c.token_at-t.ensures refl c.requires.inside (omega (arith, ap kind_of c.in-When.is))).1
 
-pub bound_item-requires-then-kind-eq6 : goal.bound_item-requires-then-kind-eq6
-bound_item-requires-then-kind-eq6 c =
-    record { fact_1 = (token_on _ _ c.token_at-t.ensures c.kind_of-kind.ensures c.requires.fact_1 (omega (arith, c.if-kind-eq6.true))).1; fact_2 = c.requires.fact_3; fact_3 = record { is = refl; sign_is = refl } }
+pub group_item-requires-clause-inside : goal.group_item-requires-clause-inside
+group_item-requires-clause-inside c = (token_on _ _ c.token_at-t.ensures refl c.requires.inside (omega (arith, ap kind_of c.in-Opens.is))).1
 
-pub returns-then-kind-eq6 : goal.returns-then-kind-eq6
-returns-then-kind-eq6 c =
-    begins_let _ _ c.token_at-t.ensures c.kind_of-kind.ensures c.requires.fact_1 c.if-kind-eq6.true (c.bound_item-then-kind-eq6.ensures _)
+pub text_item-requires-clause-inside : goal.text_item-requires-clause-inside
+text_item-requires-clause-inside c = (token_on _ _ c.token_at-t.ensures refl c.requires.inside (omega (arith, ap kind_of c.in-Hash.is))).1
 
-pub when_item-requires : goal.when_item-requires
-when_item-requires c =
-    record { fact_1 = (token_on _ _ c.token_at-t.ensures c.kind_of-kind.ensures c.requires.fact_1 (omega (arith, c.if-kind-eq7.true))).1; fact_2 = c.requires.fact_2; fact_3 = c.requires.fact_3 }
+pub returns-in-Number : goal.returns-in-Number
+returns-in-Number c = begins_element _ _ c.token_at-t.ensures refl (ap kind_of c.in-Number.is) (c.element_item.ensures _)
 
-pub returns-then-kind-eq7 : goal.returns-then-kind-eq7
-returns-then-kind-eq7 c =
-    begins_when _ _ c.token_at-t.ensures c.kind_of-kind.ensures c.requires.fact_1 c.if-kind-eq7.true c.when_item.ensures
+pub returns-in-For : goal.returns-in-For
+returns-in-For c = begins_for _ _ c.token_at-t.ensures refl c.requires.inside (ap kind_of c.in-For.is) (c.bound_item.ensures _)
 
-pub group_item-requires : goal.group_item-requires
-group_item-requires c =
-    record { fact_1 = (token_on _ _ c.token_at-t.ensures c.kind_of-kind.ensures c.requires.fact_1 (omega (arith, c.if-kind-eq15.true))).1; fact_2 = c.requires.fact_2; fact_3 = c.requires.fact_3 }
+pub returns-in-Let : goal.returns-in-Let
+returns-in-Let c = begins_let _ _ c.token_at-t.ensures refl c.requires.inside (ap kind_of c.in-Let.is) (c.bound_item-in-Let.ensures _)
 
-pub returns-then-kind-eq15 : goal.returns-then-kind-eq15
-returns-then-kind-eq15 c =
-    begins_group _ _ c.token_at-t.ensures c.kind_of-kind.ensures c.requires.fact_1 c.if-kind-eq15.true c.group_item.ensures
+pub returns-in-When : goal.returns-in-When
+returns-in-When c = begins_when _ _ c.token_at-t.ensures refl c.requires.inside (ap kind_of c.in-When.is) c.when_item.ensures
 
-pub text_item-requires : goal.text_item-requires
-text_item-requires c =
-    record { fact_1 = (token_on _ _ c.token_at-t.ensures c.kind_of-kind.ensures c.requires.fact_1 (omega (arith, c.if-kind-eq20.true))).1; fact_2 = c.requires.fact_2; fact_3 = c.requires.fact_3 }
+pub returns-in-Opens : goal.returns-in-Opens
+returns-in-Opens c = begins_group _ _ c.token_at-t.ensures refl c.requires.inside (ap kind_of c.in-Opens.is) c.group_item.ensures
 
-pub returns-then-kind-eq20 : goal.returns-then-kind-eq20
-returns-then-kind-eq20 c =
-    begins_text _ _ c.token_at-t.ensures c.kind_of-kind.ensures c.requires.fact_1 c.if-kind-eq20.true (c.text_item.ensures _)
+pub returns-in-Hash : goal.returns-in-Hash
+returns-in-Hash c = begins_text _ _ c.token_at-t.ensures refl c.requires.inside (ap kind_of c.in-Hash.is) (c.text_item.ensures _)
 
-pub returns-then-kind-eq21 : goal.returns-then-kind-eq21
-returns-then-kind-eq21 c =
-    begins_variable _ _ c.token_at-t.ensures c.kind_of-kind.ensures c.if-kind-eq21.true (c.variable_item.ensures _)
+pub returns-in-Dollar : goal.returns-in-Dollar
+returns-in-Dollar c = begins_variable _ _ c.token_at-t.ensures refl (ap kind_of c.in-Dollar.is) (c.variable_item.ensures _)
 
-pub returns : goal.returns
-returns c =
-    begins_not _ _ c.token_at-t.ensures c.kind_of-kind.ensures c.if-kind-eq15.false c.if-kind-eq20.false c.if-kind-eq2.false c.if-kind-eq21.false c.if-kind-eq3.false c.if-kind-eq6.false c.if-kind-eq7.false
+pub returns-in_default : goal.returns-in_default
+returns-in_default c = begins_not _ _ c.token_at-t.ensures refl (other_kind _ Token.Opens (λ v. refl) c.in_default.not-Opens) (other_kind _ Token.Hash (λ v. refl) c.in_default.not-Hash) (other_number _ c.in_default.not-Number) (other_kind _ Token.Dollar (λ v. refl) c.in_default.not-Dollar) (other_kind _ Token.For (λ v. refl) c.in_default.not-For) (other_kind _ Token.Let (λ v. refl) c.in_default.not-Let) (other_kind _ Token.When (λ v. refl) c.in_default.not-When)

@@ -1,17 +1,13 @@
 -- `items::element_item` meets its contract.
 -- Assumes nothing.
-use Rattle.items.proofs.Outs.{got_on}
+use Rattle.std.proofs.lemmas.Result.{err_from_is_err_and}
 use Rattle.items.proofs.Openings.{element_on, element_not}
 use Rattle.items.proofs.element_item.Goals as goal
 
-pub inside_item-requires : goal.inside_item-requires
-inside_item-requires c =
-    record { fact_1 = (got_on c.number_in.ensures c.in-Number.is).1; fact_2 = c.requires.fact_2 }
+pub returns-in_err-l : goal.returns-in_err-l
+returns-in_err-l c =
+    let p = err_from_is_err_and c.from_residual.result c.from_residual.ensures.1 in
+    λ code. rw (p.1, p.2) (element_not code c.in_err-l.ensures)
 
-pub returns-in-Refused : goal.returns-in-Refused
-returns-in-Refused c =
-    λ code. element_not c.number_in.ensures code c.in-Refused.is
-
-pub returns-in-Number : goal.returns-in-Number
-returns-in-Number c =
-    λ code. element_on c.number_in.ensures code c.in-Number.is (c.inside_item.ensures code)
+pub returns : goal.returns
+returns c = λ code. element_on code c.in_ok-l.ensures (c.inside_item.ensures code)

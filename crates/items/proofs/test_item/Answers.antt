@@ -1,12 +1,13 @@
 -- `items::test_item` meets its contract.
 -- Assumes nothing.
+use Rattle.std.proofs.lemmas.Result.{err_from_is_err_and}
 use Rattle.items.proofs.Items.{test_made, test_not}
 use Rattle.items.proofs.test_item.Goals as goal
 
-pub returns-in-Refused : goal.returns-in-Refused
-returns-in-Refused c =
-    test_not c.args.kind c.args.v c.test_at.ensures c.in-Refused.is
+pub returns-in_err-t : goal.returns-in_err-t
+returns-in_err-t c =
+    let p = err_from_is_err_and c.from_residual.result c.from_residual.ensures.1 in
+    λ deep. rw (p.1, p.2) (test_not c.args.axis c.args.v c.in_err-t.ensures deep)
 
-pub returns-in-Number : goal.returns-in-Number
-returns-in-Number c =
-    test_made c.args.kind c.args.v c.test_at.ensures c.requires.fact_4 c.in-Number.is c.made.ensures
+pub returns : goal.returns
+returns c = test_made c.args.axis c.args.v c.in_ok-t.ensures c.query.ensures c.made.ensures

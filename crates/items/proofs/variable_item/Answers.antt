@@ -1,17 +1,13 @@
 -- `items::variable_item` meets its contract.
 -- Assumes nothing.
-use Rattle.items.proofs.Outs.{got_on}
+use Rattle.std.proofs.lemmas.Result.{err_from_is_err_and}
 use Rattle.items.proofs.Openings.{variable_on, variable_not}
 use Rattle.items.proofs.variable_item.Goals as goal
 
-pub step_item-requires : goal.step_item-requires
-step_item-requires c =
-    record { fact_1 = (got_on c.variable_at.ensures c.in-Number.is).1; fact_2 = c.requires.fact_2; fact_3 = c.requires.fact_3 }
+pub returns-in_err-v : goal.returns-in_err-v
+returns-in_err-v c =
+    let p = err_from_is_err_and c.from_residual.result c.from_residual.ensures.1 in
+    λ deep. rw (p.1, p.2) (variable_not c.in_err-v.ensures deep)
 
-pub returns-in-Refused : goal.returns-in-Refused
-returns-in-Refused c =
-    variable_not c.variable_at.ensures c.in-Refused.is
-
-pub returns-in-Number : goal.returns-in-Number
-returns-in-Number c =
-    variable_on c.variable_at.ensures c.in-Number.is c.step_item.ensures
+pub returns : goal.returns
+returns c = variable_on c.in_ok-v.ensures c.step_item.ensures

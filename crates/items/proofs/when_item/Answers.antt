@@ -1,21 +1,25 @@
 -- `items::when_item` meets its contract.
 -- Assumes nothing.
 use native.Mathlib.Numerals.{add-one}
+use Rattle.std.proofs.lemmas.Result.{err_from_is_err_and}
 use Rattle.items.proofs.Guards.{when_deep, when_not, when_on, when_inside}
 use Rattle.items.proofs.when_item.Goals as goal
 
-pub returns-then-deep-ge100 : goal.returns-then-deep-ge100
-returns-then-deep-ge100 c =
-    when_deep c.if-deep-ge100.true
+pub returns-in_err-check_depth : goal.returns-in_err-check_depth
+returns-in_err-check_depth c =
+    let p = err_from_is_err_and c.from_residual.result c.from_residual.ensures.1 in
+    rw (p.1, p.2, c.in_err-check_depth.ensures.1) (when_deep c.in_err-check_depth.ensures.0)
 
-pub body_item-requires : goal.body_item-requires
-body_item-requires c =
-    record { fact_1 = (when_inside c.condition.ensures c.requires.fact_3 c.in-Made.is).0; fact_2 = (when_inside c.condition.ensures c.requires.fact_3 c.in-Made.is).1; fact_3 = c.if-deep-ge100.false }
+pub returns-in_err-part : goal.returns-in_err-part
+returns-in_err-part c =
+    let p = err_from_is_err_and c.from_residual-in_err-part.result c.from_residual-in_err-part.ensures.1 in
+    rw (p.1, p.2) (when_not _ (rw add-one at c.in_err-part.ensures) c.in_ok-check_depth.ensures)
 
-pub returns-in-Refused : goal.returns-in-Refused
-returns-in-Refused c =
-    when_not _ (rw add-one at c.condition.ensures) c.if-deep-ge100.false c.in-Refused.is
+pub body_item-requires-clause-inside : goal.body_item-requires-clause-inside
+body_item-requires-clause-inside c = (when_inside c.in_ok-part.ensures c.requires.few).0
 
-pub returns-in-Made : goal.returns-in-Made
-returns-in-Made c =
-    when_on _ (rw add-one at c.condition.ensures) c.if-deep-ge100.false c.in-Made.is c.body_item.ensures
+pub body_item-requires-clause-few : goal.body_item-requires-clause-few
+body_item-requires-clause-few c = (when_inside c.in_ok-part.ensures c.requires.few).1
+
+pub returns : goal.returns
+returns c = when_on _ (rw add-one at c.in_ok-part.ensures) c.in_ok-check_depth.ensures c.body_item.ensures

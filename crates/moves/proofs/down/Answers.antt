@@ -8,4 +8,4 @@ use Rattle.moves.proofs.down.Goals as goal
 
 pub returns : goal.returns
 returns c =
-    moves _ _ c.args.k c.args.m _ c.requires.fits c.shift.ensures c.clear.ensures (simp (length-take, length-drop) (omega (arith, c.requires.fits, c.shift.auto.rest))) refl
+    moves _ _ c.args.k c.args.m _ c.requires.fits c.copy_within.ensures.after c.clear.ensures (simp (length-take, length-drop) (omega (arith, c.requires.fits, c.copy_within.ensures.len))) refl

@@ -1,16 +1,16 @@
 -- `parses::parse_with` meets its contract.
 -- Assumes nothing.
-use Rattle.parses.proofs.Finishing.{made_inside, parse_not, parse_on}
+use Rattle.std.proofs.lemmas.Result.{err_from_is_err_and}
+use Rattle.parses.proofs.Finishing.{parse_not, parse_on, made_inside}
 use Rattle.parses.proofs.parse_with.Goals as goal
 
 pub finish-requires : goal.finish-requires
-finish-requires c =
-    made_inside c.read_items.ensures c.in-Made.is
+finish-requires c = made_inside c.in_ok-here.ensures
 
-pub returns-in-Refused : goal.returns-in-Refused
-returns-in-Refused c =
-    parse_not c.read_items.ensures c.in-Refused.is
+pub returns-in_err-here : goal.returns-in_err-here
+returns-in_err-here c =
+    let p = err_from_is_err_and c.from_residual.result c.from_residual.ensures.1 in
+    rw (p.1, p.2) (parse_not c.in_err-here.ensures)
 
-pub returns-in-Made : goal.returns-in-Made
-returns-in-Made c =
-    parse_on c.read_items.ensures c.in-Made.is c.finish.ensures
+pub returns : goal.returns
+returns c = parse_on c.in_ok-here.ensures c.finish.ensures

@@ -1,21 +1,18 @@
 -- `parses::settle` meets its contract.
 -- Assumes nothing.
-use Rattle.words.proofs.Stores.{blanked_whole}
-use Rattle.parses.proofs.Finishing.{settles_not, settles_bytes, settles_short, few_listed}
+use mathlib.Core.Path.{ap}
+use native.Mathlib.Omega.{arith}
+use lib.ListN.{length}
+use Rattle.meaning.specs.Base.{zeros}
+use Rattle.words.proofs.Tables.{code_length}
+use Rattle.parses.proofs.Finishing.{settles_not}
 use Rattle.parses.proofs.settle.Goals as goal
 
 pub write-requires : goal.write-requires
 write-requires c =
-    rw c.wide.ensures (few_listed c.in-Made.is c.requires.fact_1 c.requires.fact_2)
+    let few = rw c.in-Ok.is at c.requires.few in
+    omega (arith, ap length c.new.ensures, code_length c.args.code.now c.from.result, c.from.ensures, few)
 
-pub returns-in-Refused : goal.returns-in-Refused
-returns-in-Refused c =
-    settles_not (blanked_whole c.args.out.now c.clear_bytes.ensures) c.in-Refused.is
-
-pub returns-in-Bytes : goal.returns-in-Bytes
-returns-in-Bytes c =
-    settles_bytes c.in-Made.is (rw c.wide.ensures at c.write.ensures) c.in-Bytes.is
-
-pub returns-in-Short : goal.returns-in-Short
-returns-in-Short c =
-    settles_short c.in-Made.is (rw c.wide.ensures at c.write.ensures) c.in-Short.is
+pub returns-in-Err : goal.returns-in-Err
+unfolding zeros
+returns-in-Err c = rw c.in-Err.is (settles_not (c.fill.ensures.after (λ y h. h)))

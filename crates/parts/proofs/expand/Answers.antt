@@ -1,29 +1,26 @@
 -- `parts::expand` meets its contract: the parts of what stands at the node.
 -- Assumes nothing.
-use mathlib.Core.Path.{refl}
-use Rattle.parts.proofs.Nodes.{node_inside, cond_parts, query_parts}
+use Rattle.std.proofs.Common.{subst}
+use Rattle.meaning.specs.Queries as Queries
+use Rattle.parts.specs.Items as Items
+use Rattle.parts.specs.Stacks.{Grown}
+use Rattle.parts.proofs.Nodes.{cond_here, query_here}
 use Rattle.parts.proofs.expand.Goals as goal
 
-pub read_cond-p-requires : goal.read_cond-p-requires
-read_cond-p-requires c =
-    node_inside c.requires.fact_1 c.requires.fact_2 c.wide-n.ensures
+pub returns-in-Query : goal.returns-in-Query
+returns-in-Query c =
+    let C = c.args.code.now in
+    let low = rw c.in-Query.is at c.requires.node in
+    rw c.in-Query.is
+    (subst (λ (q : Queries.Query). Grown C c.args.stack.now c.args.top c.push_query.new.stack c.push_query.result (Items.of_query c.in-Query.many c.args.deep q))
+    (query_here c.requires.lowers low c.from.ensures c.read_query-query.ensures)
+    (c.push_query.ensures C c.in-Query.q))
 
-pub push_cond-requires : goal.push_cond-requires
-push_cond-requires c =
-    c.requires.fact_4
-
-pub returns-then-kind-eq32 : goal.returns-then-kind-eq32
-returns-then-kind-eq32 c =
-    λ d. cond_parts c.requires.fact_1 c.requires.fact_2 c.requires.fact_3 c.wide-n.ensures d c.if-kind-eq32.true c.read_cond-p.ensures _ c.push_cond.ensures
-
-pub read_query-q-requires : goal.read_query-q-requires
-read_query-q-requires c =
-    node_inside c.requires.fact_1 c.requires.fact_2 c.wide-n.ensures
-
-pub push_query-requires : goal.push_query-requires
-push_query-requires c =
-    c.requires.fact_4
-
-pub returns : goal.returns
-returns c =
-    λ d. query_parts c.requires.fact_1 c.requires.fact_2 c.requires.fact_3 c.wide-n.ensures d c.if-kind-eq32.false c.read_query-q.ensures _ refl c.push_query.ensures
+pub returns-in-Cond : goal.returns-in-Cond
+returns-in-Cond c =
+    let C = c.args.code.now in
+    let low = rw c.in-Cond.is at c.requires.node in
+    rw c.in-Cond.is
+    (subst (λ (p : Queries.Cond). Grown C c.args.stack.now c.args.top c.push_cond.new.stack c.push_cond.result (Items.of_cond c.args.deep p))
+    (cond_here c.requires.lowers low c.from-in-Cond.ensures c.read_cond-cond.ensures)
+    (c.push_cond.ensures C c.in-Cond.p))

@@ -1,21 +1,18 @@
 -- `parts::opens` meets its contract: whether what stands at the node opens.
 -- Assumes nothing.
-use mathlib.Core.Path.{refl}
-use Rattle.parts.proofs.Nodes.{node_inside, cond_opening, query_opening}
+use Rattle.std.proofs.Common.{ap, ◌∙◌}
+use Rattle.parts.specs.Items as Items
+use Rattle.parts.proofs.Nodes.{cond_here, query_here}
 use Rattle.parts.proofs.opens.Goals as goal
 
-pub read_cond-p-requires : goal.read_cond-p-requires
-read_cond-p-requires c =
-    node_inside c.requires.fact_1 c.requires.fact_2 c.wide-n.ensures
+pub returns-in-Query : goal.returns-in-Query
+returns-in-Query c =
+    let low = rw c.in-Query.is at c.requires.node in
+    rw c.in-Query.is
+    (c.query_opens.ensures c.args.code.now c.in-Query.q ∙ ap (Items.query_opens c.in-Query.many) (query_here c.requires.lowers low c.from.ensures c.read_query.ensures))
 
-pub returns-then-kind-eq32 : goal.returns-then-kind-eq32
-returns-then-kind-eq32 c =
-    λ d. cond_opening c.requires.fact_1 c.requires.fact_2 c.requires.fact_3 c.wide-n.ensures d c.if-kind-eq32.true c.read_cond-p.ensures c.cond_opens.ensures
-
-pub read_query-q-requires : goal.read_query-q-requires
-read_query-q-requires c =
-    node_inside c.requires.fact_1 c.requires.fact_2 c.wide-n.ensures
-
-pub returns : goal.returns
-returns c =
-    λ d. query_opening c.requires.fact_1 c.requires.fact_2 c.requires.fact_3 c.wide-n.ensures d c.if-kind-eq32.false c.read_query-q.ensures refl c.query_opens.ensures
+pub returns-in-Cond : goal.returns-in-Cond
+returns-in-Cond c =
+    let low = rw c.in-Cond.is at c.requires.node in
+    rw c.in-Cond.is
+    (c.cond_opens.ensures c.args.code.now c.in-Cond.p ∙ ap Items.cond_opens (cond_here c.requires.lowers low c.from-in-Cond.ensures c.read_cond.ensures))

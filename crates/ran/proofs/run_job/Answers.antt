@@ -1,15 +1,27 @@
 -- `ran::run_job` meets its contract: what typing refuses is refused, and what it types is run. Assumes nothing.
-use Rattle.ran.proofs.Leaving.{job_ready, job_long, job_settled, job_stopped}
+use Rattle.ran.proofs.Leaving.{job_ready, job_long, job_code, job_vars, job_settled, job_stopped}
 use Rattle.ran.proofs.run_job.Goals as goal
 
-pub run_typed-requires : goal.run_typed-requires
-run_typed-requires c =
-    record { fact_1 = job_ready _ c.type_job-typed.ensures c.in-Accepted.is; fact_2 = job_long _ c.type_job-typed.ensures c.in-Accepted.is }
+pub run_typed-requires-clause-ready : goal.run_typed-requires-clause-ready
+run_typed-requires-clause-ready c =
+    job_ready _ c.in-Ok.ensures
 
-pub returns-in-Refused : goal.returns-in-Refused
-returns-in-Refused c =
-    job_stopped _ c.type_job-typed.ensures _ c.in-Refused.is c.refusal.ensures c.clear.ensures
+pub run_typed-requires-clause-types : goal.run_typed-requires-clause-types
+run_typed-requires-clause-types c =
+    job_long _ c.in-Ok.ensures
 
-pub returns-in-Accepted : goal.returns-in-Accepted
-returns-in-Accepted c =
-    job_settled _ c.type_job-typed.ensures c.in-Accepted.is c.run_typed.ensures
+pub run_typed-requires-clause-nodes : goal.run_typed-requires-clause-nodes
+run_typed-requires-clause-nodes c =
+    job_code _ c.in-Ok.ensures
+
+pub run_typed-requires-clause-vars : goal.run_typed-requires-clause-vars
+run_typed-requires-clause-vars c =
+    job_vars _ c.in-Ok.ensures
+
+pub returns-in-Ok : goal.returns-in-Ok
+returns-in-Ok c =
+    job_settled _ c.in-Ok.ensures c.run_typed.ensures
+
+pub returns-in-Err : goal.returns-in-Err
+returns-in-Err c =
+    job_stopped _ _ c.in-Err.ensures c.clear.ensures

@@ -1,17 +1,18 @@
--- `reach::next` meets its contract: what is kept from i on is what is kept from here on (`Seeking`). Assumes nothing.
-use Rattle.reach.proofs.Atoms.{seeking_none, seeking_more, seeking_here, seeking_all}
+-- `reach::next` meets its contract: the first that the search finds. Assumes nothing.
+use mathlib.Core.Path.{◌≡◌}
+use mathlib.Core.Bool.{true, false}
+use Prim.Native.Nat.{◌<◌}
+use lib.ListN.{length}
+use Rattle.std.proofs.Common.{rules, tests}
+use Rattle.std.proofs.lemmas.Iterator.{first_from_Range}
+use Rattle.reach.specs.Marks.{marks_of}
+use Rattle.reach.specs.Atoms.{picked}
+use Rattle.reach.proofs.Atoms.{next_found}
 use Rattle.reach.proofs.next.Goals as goal
 
-pub loop-k-init : goal.loop-k-init
-loop-k-init c = seeking_none _ _ _
-
-pub returns-then-chosen : goal.returns-then-chosen
-returns-then-chosen c =
-    seeking_here c.loop-k.invariant c.loop-k-test.true (c.chosen.ensures _ c.loop-k-test.true) c.if-chosen.true
-
-pub loop-k-preserved : goal.loop-k-preserved
-loop-k-preserved c =
-    seeking_more c.loop-k.invariant c.loop-k-test.true (c.chosen.ensures _ c.loop-k-test.true) c.if-chosen.false
-
 pub returns : goal.returns
-returns c = seeking_all c.loop-k.invariant c.loop-k-test.false
+returns c =
+    let f = picked c.args.test c.args.types.now (marks_of (length c.args.types.now) c.args.marks.now) in
+    let n = c.len-count.result in
+    rw c.len-count.ensures at (next_found f n c.args.i c.find.result
+    (first_from_Range _ _ _ _ (λ k. k < n → f k ≡ true) (λ k. k < n → f k ≡ false) c.find.ensures.ran (λ x q k. search (rules, tests)) (λ x q k. search (rules, tests))))

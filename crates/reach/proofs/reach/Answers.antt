@@ -1,46 +1,47 @@
 -- `reach::reach` meets its contract: what is marked is reached, and what stands in it is marked or still to be visited (`Visiting`). Assumes nothing.
-use mathlib.Core.Path.{refl, sym, ◌∙◌}
-use lib.Seq.{length-take-le}
-use Rattle.reach.proofs.Reaching.{cleared_length, start_room, anyhow_start, anyhow_room, anyhow_place, anyhow_small, anyhow_within, anyhow_inside, anyhow_visited, anyhow_end, one_left, over_less}
+use mathlib.Core.Path.{sym}
+use Rattle.reach.proofs.Reaching.{start_room, visiting_start, visiting_end, next_room, next_place, next_small, next_inside, next_within, next_visited, front_at, one_left, none_left, over_less}
+use lib.ListN.{length}
+use Prim.Native.Nat.{◌≤◌}
 use native.Mathlib.Omega.{arith}
 use Rattle.reach.proofs.reach.Goals as goal
 
-pub slice_bounds-clear-end : goal.slice_bounds-clear-end
-slice_bounds-clear-end c =
-    omega (arith, c.requires.fact_3)
+pub push-left-requires-clause-low : goal.push-left-requires-clause-low
+push-left-requires-clause-low c = rw c.len-count.ensures c.requires.low
 
-pub slice_bounds-clear-end-2 : goal.slice_bounds-clear-end-2
-slice_bounds-clear-end-2 c =
-    sym (length-take-le _ _ (omega (arith, c.requires.fact_3)))
-
-pub push-left-requires : goal.push-left-requires
-push-left-requires c =
-    record { fact_1 = c.requires.fact_2; fact_2 = start_room _ _ c.requires.fact_1.1 c.requires.fact_3 c.clear.ensures }
+pub push-left-requires-clause-room : goal.push-left-requires-clause-room
+push-left-requires-clause-room c =
+    start_room _ _ c.requires.formed (sym c.len-count.ensures) (rw c.len-count.ensures c.requires.long) c.clear.ensures
 
 pub loop-left-init : goal.loop-left-init
 loop-left-init c =
-    anyhow_start _ _ (omega (arith, c.requires.fact_3)) c.clear.ensures (start_room _ _ c.requires.fact_1.1 c.requires.fact_3 c.clear.ensures) c.push-left.ensures
+    let long : c.len-count.result ≤ length c.args.marks.now = omega (arith, c.len-count.ensures, c.requires.long) in
+    let room = start_room _ _ c.requires.formed (sym c.len-count.ensures) (rw c.len-count.ensures c.requires.long) c.clear.ensures in
+    visiting_start _ _ _ _ c.requires.formed (sym c.len-count.ensures) (rw c.len-count.ensures c.requires.low) (sym c.push-left.ensures.long) room (front_at _ _ _ long c.clear.ensures) c.push-left.ensures
 
 pub overflow_add-count : goal.overflow_add-count
 overflow_add-count c =
-    omega (arith, anyhow_small (one_left c.loop-left-test.true) c.loop-left.invariant c.requires.fact_1.1 c.requires.fact_2)
+    omega (arith, next_small _ _ _ _ c.requires.formed (sym c.len-count.ensures) (rw c.len-count.ensures c.requires.low) (one_left c.loop-left-test.true) c.loop-left.invariant)
 
 pub offset_bounds-marks-count : goal.offset_bounds-marks-count
 offset_bounds-marks-count c =
-    omega (arith, anyhow_small (one_left c.loop-left-test.true) c.loop-left.invariant c.requires.fact_1.1 c.requires.fact_2)
+    omega (arith, next_small _ _ _ _ c.requires.formed (sym c.len-count.ensures) (rw c.len-count.ensures c.requires.low) (one_left c.loop-left-test.true) c.loop-left.invariant)
 
 pub bounds-marks-count : goal.bounds-marks-count
 bounds-marks-count c =
-    anyhow_place (one_left c.loop-left-test.true) c.loop-left.invariant c.requires.fact_1.1 c.requires.fact_2
+    next_place _ _ _ _ c.requires.formed (sym c.len-count.ensures) (rw c.len-count.ensures c.requires.low) (one_left c.loop-left-test.true) c.loop-left.invariant
 
-pub read_entry-x-requires : goal.read_entry-x-requires
-read_entry-x-requires c =
-    anyhow_inside (one_left c.loop-left-test.true) c.loop-left.invariant c.requires.fact_1.1 c.requires.fact_2 c.wide-at.ensures refl
+pub get-requires : goal.get-requires
+get-requires c =
+    next_inside _ _ _ _ c.requires.formed (sym c.len-count.ensures) (rw c.len-count.ensures c.requires.low) (one_left c.loop-left-test.true) c.loop-left.invariant c.from-at.ensures
 
-pub visit-left-requires : goal.visit-left-requires
-visit-left-requires c =
-    let one = one_left c.loop-left-test.true in
-    record { fact_1 = anyhow_within one c.loop-left.invariant c.requires.fact_1.1 c.requires.fact_2 c.wide-at.ensures c.read_entry-x.ensures; fact_2 = anyhow_room one c.loop-left.invariant c.requires.fact_1.1 c.requires.fact_2 }
+pub visit-left-requires-clause-within : goal.visit-left-requires-clause-within
+visit-left-requires-clause-within c =
+    next_within _ _ _ _ c.requires.formed (sym c.len-count.ensures) (rw c.len-count.ensures c.requires.low) (one_left c.loop-left-test.true) c.loop-left.invariant c.from-at.ensures _ c.get.ensures
+
+pub visit-left-requires-clause-room : goal.visit-left-requires-clause-room
+visit-left-requires-clause-room c =
+    next_room _ _ _ _ c.requires.formed (sym c.len-count.ensures) (rw c.len-count.ensures c.requires.low) (one_left c.loop-left-test.true) c.loop-left.invariant
 
 pub loop-left-smaller : goal.loop-left-smaller
 loop-left-smaller c =
@@ -48,12 +49,8 @@ loop-left-smaller c =
 
 pub loop-left-preserved : goal.loop-left-preserved
 loop-left-preserved c =
-    anyhow_visited (one_left c.loop-left-test.true) c.loop-left.invariant c.requires.fact_1.1 c.requires.fact_2 c.wide-at.ensures c.read_entry-x.ensures c.visit-left.ensures
-
-pub shape_of-marks : goal.shape_of-marks
-shape_of-marks c =
-    (c.loop-left.invariant.is _ c.requires.fact_1.1 c.requires.fact_2).long ∙ c.push-left.auto.marks ∙ cleared_length c.args.marks.now c.clear.new.t c.args.count (omega (arith, c.requires.fact_3)) c.clear.ensures
+    next_visited _ _ _ _ c.requires.formed (sym c.len-count.ensures) (rw c.len-count.ensures c.requires.low) (one_left c.loop-left-test.true) c.loop-left.invariant c.from-at.ensures _ c.get.ensures c.visit-left.ensures
 
 pub returns : goal.returns
 returns c =
-    anyhow_end (omega (arith, c.loop-left-test.false)) c.requires.fact_2 c.loop-left.invariant
+    rw c.len-count.ensures at (visiting_end _ _ _ _ c.requires.formed (sym c.len-count.ensures) (rw c.len-count.ensures c.requires.low) (none_left c.loop-left-test.false c.loop-left.invariant))

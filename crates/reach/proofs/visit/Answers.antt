@@ -1,52 +1,46 @@
--- `reach::visit` meets its contract: one way for each range of kinds. Assumes nothing.
+-- `reach::visit` meets its contract: what stands in each kind of type. Assumes nothing.
 use mathlib.Core.Path.{sym, ap, ◌∙◌}
 use mathlib.Core.List.{[], ◌∷◌}
-use Rattle.reach.proofs.Pushing.{grew_none, grew_by}
-use Rattle.reach.proofs.Steps.{steps_element, steps_two, steps_one, steps_name, steps_below, steps_above, within_one, within_two, within_name}
 use native.Mathlib.Omega.{arith}
+use Rattle.reach.proofs.Pushing.{grew_none, grew_by, grew_two}
+use Rattle.reach.proofs.Steps.{steps_none, steps_element, steps_two, steps_one, steps_name, within_one, within_two, within_name}
 use Rattle.reach.proofs.visit.Goals as goal
 
-pub push-requires : goal.push-requires
-push-requires c =
-    record { fact_1 = within_one c.requires.fact_1 (steps_element _ _ _ _ c.in-3.is); fact_2 = c.requires.fact_2 }
+pub push-requires-clause-low : goal.push-requires-clause-low
+push-requires-clause-low c = omega (arith, c.from.ensures, within_one c.requires.within (steps_element _ c.in-Element.is))
 
-pub bounds-defs-a : goal.bounds-defs-a
-bounds-defs-a c =
-    within_name _ _ _ c.requires.fact_1 c.in-9.is
+pub push-more-requires-clause-low : goal.push-more-requires-clause-low
+push-more-requires-clause-low c = omega (arith, c.from-in-Pair.ensures, within_two c.requires.within (steps_two _ c.in-Pair.is))
 
-pub push-requires-in-9 : goal.push-requires-in-9
-push-requires-in-9 c =
-    record { fact_1 = within_one c.requires.fact_1 (steps_name _ _ _ _ c.in-9.is ∙ ap (◌∷ []) (sym c.wide.ensures)); fact_2 = c.requires.fact_2 }
+pub push-requires-in-Pair-clause-low : goal.push-requires-in-Pair-clause-low
+push-requires-in-Pair-clause-low c = omega (arith, c.from-in-Pair-2.ensures, within_two c.requires.within (steps_two _ c.in-Pair.is))
 
-pub push_two-requires : goal.push_two-requires
-push_two-requires c =
-    let w = within_two c.requires.fact_1 (steps_two _ _ _ _ (omega (arith, c.in-4.if-kind-lt3-own.false)) c.in-4.if-kind-lt6-own.true) in
-    record { fact_1 = w.0; fact_2 = w.1; fact_3 = c.requires.fact_2 }
+pub push-requires-in-Star-clause-low : goal.push-requires-in-Star-clause-low
+push-requires-in-Star-clause-low c = omega (arith, c.from-in-Star.ensures, within_one c.requires.within (steps_one _ c.in-Star.is))
 
-pub push-requires-in-6 : goal.push-requires-in-6
-push-requires-in-6 c =
-    record { fact_1 = within_one c.requires.fact_1 (steps_one _ _ _ _ c.in-6.if-kind-lt6-own.false c.in-6.if-kind-lt9-own.true); fact_2 = c.requires.fact_2 }
+pub bounds-defs-from : goal.bounds-defs-from
+bounds-defs-from c = omega (arith, c.from-in-Name.ensures, within_name c.requires.within c.in-Name.is)
 
-pub returns-in-3 : goal.returns-in-3
-returns-in-3 c =
-    grew_by (steps_element _ _ _ _ c.in-3.is) c.push.ensures
+pub push-requires-in-Name-clause-low : goal.push-requires-in-Name-clause-low
+push-requires-in-Name-clause-low c =
+    omega (arith, rw c.from-in-Name.ensures at c.from-in-Name-2.ensures, within_one c.requires.within (steps_name _ c.in-Name.is))
 
-pub returns-in-9 : goal.returns-in-9
-returns-in-9 c =
-    grew_by (steps_name _ _ _ _ c.in-9.is ∙ ap (◌∷ []) (sym c.wide.ensures)) c.push-in-9.ensures
+pub returns-in-Empty : goal.returns-in-Empty
+returns-in-Empty c = grew_by (steps_none _ c.in-Empty.is) (grew_none _ _ _)
 
-pub returns-in-4 : goal.returns-in-4
-returns-in-4 c =
-    grew_by (steps_two _ _ _ _ (omega (arith, c.in-4.if-kind-lt3-own.false)) c.in-4.if-kind-lt6-own.true) c.push_two.ensures
+pub returns-in-Element : goal.returns-in-Element
+returns-in-Element c = grew_by (steps_element _ c.in-Element.is ∙ ap (◌∷ []) (sym c.from.ensures)) c.push.ensures
 
-pub returns-in-6 : goal.returns-in-6
-returns-in-6 c =
-    grew_by (steps_one _ _ _ _ c.in-6.if-kind-lt6-own.false c.in-6.if-kind-lt9-own.true) c.push-in-6.ensures
+pub returns-in-Pair : goal.returns-in-Pair
+returns-in-Pair c =
+    let w = within_two c.requires.within (steps_two _ c.in-Pair.is) in
+    let a = c.from-in-Pair.ensures in
+    let b = c.from-in-Pair-2.ensures in
+    grew_by (steps_two _ c.in-Pair.is ∙ (λ i. sym a i ∷ sym b i ∷ [])) (grew_two (omega (arith, w.0, a)) c.push-more.ensures c.push-in-Pair.ensures)
 
-pub returns-in_default : goal.returns-in_default
-returns-in_default c =
-    grew_by (steps_below _ _ _ _ (omega (arith, c.in_default.if-kind-lt3-own.true, c.in_default.in_default-own.rest.0.1))) (grew_none _ _ _)
+pub returns-in-Star : goal.returns-in-Star
+returns-in-Star c = grew_by (steps_one _ c.in-Star.is ∙ ap (◌∷ []) (sym c.from-in-Star.ensures)) c.push-in-Star.ensures
 
-pub returns-in_default-2 : goal.returns-in_default-2
-returns-in_default-2 c =
-    grew_by (steps_above _ _ _ _ (omega (arith, c.in_default.if-kind-lt9-own.false, c.in_default.in_default-own.rest.1))) (grew_none _ _ _)
+pub returns-in-Name : goal.returns-in-Name
+returns-in-Name c =
+    grew_by (steps_name _ c.in-Name.is ∙ ap (◌∷ []) (sym (rw c.from-in-Name.ensures at c.from-in-Name-2.ensures))) c.push-in-Name.ensures

@@ -1,8 +1,8 @@
--- `reading::admit` meets its contract: the four tests in the order of the refusals, each by its law.
+-- `reading::admit` meets its contract: the tests in the order of the refusals, each by its law.
 -- Assumes nothing.
-use Rattle.reading.proofs.Admitting.{disordered, crowded, unfit, repeated, admitted}
 use mathlib.Core.Path.{ap}
 use mathlib.Core.Bool.{not}
+use Rattle.reading.proofs.Admitting.{disordered, crowded, unfit, repeated, admitted}
 use Rattle.reading.proofs.admit.Goals as goal
 
 pub returns-then-not-in_order : goal.returns-then-not-in_order
@@ -22,4 +22,4 @@ returns-then-again c =
 
 pub returns : goal.returns
 returns c =
-    admitted _ _ _ _ _ _ (ap not c.if-not-in_order.false) c.in_order.ensures (ap not c.if-not-has_room.false) c.has_room.ensures (ap not c.if-not-item_fits.false) c.item_fits.ensures _ c.if-again.false c.again.ensures c.count-next.ensures
+    admitted _ _ _ _ _ _ (ap not c.if-not-in_order.false) c.in_order.ensures (ap not c.if-not-has_room.false) c.has_room.ensures (ap not c.if-not-item_fits.false) c.item_fits.ensures _ c.if-again.false c.again.ensures c.count.ensures

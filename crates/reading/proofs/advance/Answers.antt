@@ -1,20 +1,16 @@
 -- `reading::advance` meets its contract: what stands there decides, and then the four tests.
 -- Assumes nothing.
-use Rattle.reading.proofs.Admitting.{cut, strange, misfit, whole}
+use Rattle.std.proofs.lemmas.Result.{err_from_is_err_and}
+use Rattle.reading.proofs.Admitting.{nothing_there, not_admitted, goes_on}
 use Rattle.reading.proofs.advance.Goals as goal
 
-pub returns-in-Cut : goal.returns-in-Cut
-returns-in-Cut c =
-    cut _ _ _ _ _ _ _ c.record_at.ensures c.in-Cut.is
+pub returns-in_err-item : goal.returns-in_err-item
+returns-in_err-item c =
+    let p = err_from_is_err_and c.from_residual.result c.from_residual.ensures.1 in rw (p.1, p.2) (nothing_there _ _ _ _ _ _ _ _ c.in_err-item.ensures)
 
-pub returns-in-Strange : goal.returns-in-Strange
-returns-in-Strange c =
-    strange _ _ _ _ _ _ _ c.record_at.ensures c.in-Strange.is
+pub returns-in_err-next : goal.returns-in_err-next
+returns-in_err-next c =
+    let p = err_from_is_err_and c.from_residual-in_err-next.result c.from_residual-in_err-next.ensures.1 in rw (p.1, p.2) (not_admitted _ _ _ _ _ _ _ _ c.in_ok-item.ensures _ c.in_err-next.ensures)
 
-pub returns-in-Misfit : goal.returns-in-Misfit
-returns-in-Misfit c =
-    misfit _ _ _ _ _ _ _ c.record_at.ensures c.in-Misfit.is
-
-pub returns-in-Whole : goal.returns-in-Whole
-returns-in-Whole c =
-    whole _ _ _ _ _ _ _ _ c.record_at.ensures c.in-Whole.is c.admit.ensures
+pub returns : goal.returns
+returns c = goes_on _ _ _ _ _ _ _ _ c.in_ok-item.ensures _ c.in_ok-next.ensures

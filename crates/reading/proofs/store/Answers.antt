@@ -1,45 +1,19 @@
 -- `reading::store` meets its contract: each section stores behind what its table holds.
 -- Assumes nothing.
-use native.Mathlib.Omega.{arith}
 use Rattle.reading.proofs.Holding.{stores_entry, stores_definition, stores_variable, stores_node, stores_nothing}
-use borrow.Author.Rules.{rules}
 use Rattle.reading.proofs.store.Goals as goal
 
-pub put_entry-requires : goal.put_entry-requires
-put_entry-requires c =
-    c.requires.types c.in-0.is
+pub returns-in-Types : goal.returns-in-Types
+returns-in-Types c = stores_entry _ c.in-Types.is (c.requires.types c.in-Types.is) c.put_entry.ensures
 
-pub offset_bounds-defs-n : goal.offset_bounds-defs-n
-offset_bounds-defs-n c =
-    omega (arith, c.requires.defs c.in-1.is, c.well_formed)
+pub returns-in-Definitions : goal.returns-in-Definitions
+returns-in-Definitions c = stores_definition c.in-Definitions.is (c.requires.defs c.in-Definitions.is)
 
-pub bounds-defs-n : goal.bounds-defs-n
-bounds-defs-n c =
-    c.requires.defs c.in-1.is
+pub returns-in-Variables : goal.returns-in-Variables
+returns-in-Variables c = stores_variable _ c.in-Variables.is (c.requires.vars c.in-Variables.is) c.put_var.ensures
 
-pub put_var-requires : goal.put_var-requires
-put_var-requires c =
-    c.requires.vars c.in-2.is
+pub returns-in-Query : goal.returns-in-Query
+returns-in-Query c = stores_node _ c.in-Query.is (c.requires.code c.in-Query.is) c.put_node.ensures
 
-pub put_node-requires : goal.put_node-requires
-put_node-requires c =
-    c.requires.code c.in-3.is
-
-pub returns-in-0 : goal.returns-in-0
-returns-in-0 c =
-    stores_entry _ c.in-0.is (c.requires.types c.in-0.is) c.put_entry.ensures
-
-pub returns-in-1 : goal.returns-in-1
-returns-in-1 c =
-    stores_definition c.in-1.is (c.requires.defs c.in-1.is)
-
-pub returns-in-2 : goal.returns-in-2
-returns-in-2 c =
-    stores_variable _ c.in-2.is (c.requires.vars c.in-2.is) c.put_var.ensures
-
-pub returns-in-3 : goal.returns-in-3
-returns-in-3 c =
-    stores_node _ c.in-3.is (c.requires.code c.in-3.is) c.put_node.ensures
-
-pub returns-in_default : goal.returns-in_default
-returns-in_default c = stores_nothing (search rules)
+pub returns-in-Result : goal.returns-in-Result
+returns-in-Result c = stores_nothing c.in-Result.is

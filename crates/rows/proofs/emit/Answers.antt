@@ -6,11 +6,11 @@ use Rattle.rows.proofs.emit.Goals as goal
 
 pub put_node-requires : goal.put_node-requires
 put_node-requires c =
-    omega (arith, c.requires.fact_1, c.wide-n.ensures, c.if-has_room.true)
+    omega (arith, c.requires.room, c.from.ensures, c.if-has_room.true)
 
 pub returns-then-has_room : goal.returns-then-has_room
 returns-then-has_room c =
-    emits_row _ _ _ _ c.requires.fact_1 c.if-has_room.true c.wide-n.ensures c.put_node.ensures
+    emits_row _ _ _ _ c.requires.room c.if-has_room.true c.from.ensures c.put_node.ensures
 
 pub returns : goal.returns
 returns c =

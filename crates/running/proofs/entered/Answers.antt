@@ -8,8 +8,8 @@ use Rattle.running.proofs.entered.Goals as goal
 
 pub returns-then-room-lt3 : goal.returns-then-room-lt3
 returns-then-room-lt3 c =
-    λ code held rest nodes l s long h e low. element_done h _ e (omega (arith, long, c.if-room-lt3.true)) refl refl
+    λ C held rest l s long h e low. element_done h _ e (omega (arith, long, c.if-room-lt3.true)) refl refl
 
 pub returns : goal.returns
 returns c =
-    λ code held rest nodes l s long h e low. element_comes h _ low e (omega (arith, long, c.if-room-lt3.false)) c.begin.ensures.1 (turned s c.begin.ensures.0)
+    λ C held rest l s long h e low. element_comes h _ low e (omega (arith, long, c.if-room-lt3.false)) c.begin.ensures.stacked (turned s c.begin.ensures.next)

@@ -6,19 +6,15 @@ use Rattle.sections.proofs.put_all.Goals as goal
 
 pub loop-i-init : goal.loop-i-init
 loop-i-init c =
-    recording_none _ _ c.requires.fact_2
-
-pub read_node-x-requires : goal.read_node-x-requires
-read_node-x-requires c =
-    omega (arith, c.requires.fact_1.inside, c.loop-i-test.true)
+    recording_none _ c.requires.room
 
 pub put_record-at-requires : goal.put_record-at-requires
 put_record-at-requires c =
-    recording_room _ _ c.loop-i.invariant c.loop-i-test.true c.read_node-x.result c.read_node-x.ensures
+    recording_room _ c.loop-i.invariant (omega (arith, c.len-i-end.ensures)) c.get.result c.get.ensures
 
 pub loop-i-preserved : goal.loop-i-preserved
 loop-i-preserved c =
-    recording_more _ _ c.loop-i.invariant c.loop-i-test.true c.read_node-x.result c.read_node-x.ensures c.put_record-at.auto.out c.put_record-at.ensures
+    recording_more _ c.loop-i.invariant (omega (arith, c.len-i-end.ensures)) c.get.result c.get.ensures c.put_record-at.auto.out c.put_record-at.ensures
 
 pub shape_of-out : goal.shape_of-out
 shape_of-out c =
@@ -26,4 +22,4 @@ shape_of-out c =
 
 pub returns : goal.returns
 returns c =
-    recording_all _ _ c.loop-i.invariant c.loop-i-test.false
+    recording_all _ c.loop-i.invariant (omega (arith, c.len-i-end.ensures))

@@ -6,20 +6,16 @@ use Rattle.sections.proofs.size_all.Goals as goal
 
 pub loop-i-init : goal.loop-i-init
 loop-i-init c =
-    sizing_none _ _ c.requires
-
-pub read_node-x-requires : goal.read_node-x-requires
-read_node-x-requires c =
-    omega (arith, c.requires.inside, c.loop-i-test.true)
+    sizing_none _ c.requires
 
 pub overflow_add-n : goal.overflow_add-n
 overflow_add-n c =
-    omega (arith, sizing_room _ _ c.loop-i.invariant c.loop-i-test.true c.read_node-x.result c.read_node-x.ensures c.size_of-n.ensures)
+    omega (arith, sizing_room _ c.loop-i.invariant (omega (arith, c.len-i-end.ensures)) c.get.result c.get.ensures c.size_of-n.ensures)
 
 pub loop-i-preserved : goal.loop-i-preserved
 loop-i-preserved c =
-    sizing_more _ _ c.loop-i.invariant c.loop-i-test.true c.read_node-x.result c.read_node-x.ensures c.size_of-n.ensures
+    sizing_more _ c.loop-i.invariant (omega (arith, c.len-i-end.ensures)) c.get.result c.get.ensures c.size_of-n.ensures
 
 pub returns : goal.returns
 returns c =
-    sizing_all _ _ c.loop-i.invariant c.loop-i-test.false
+    sizing_all _ c.loop-i.invariant (omega (arith, c.len-i-end.ensures))

@@ -3,10 +3,8 @@
 use Rattle.sections.proofs.Fields.{size_known, size_unknown}
 use Rattle.sections.proofs.size_of.Goals as goal
 
-pub returns-in_default : goal.returns-in_default
-returns-in_default c =
-    size_unknown c.form_of-known.ensures c.in_default.is
+pub returns-in-Some : goal.returns-in-Some
+returns-in-Some c = size_known _ c.in-Some.ensures
 
-pub returns : goal.returns
-returns c =
-    size_known _ c.form_of-known.ensures c.in-As.is
+pub returns-in-None : goal.returns-in-None
+returns-in-None c = size_unknown c.in-None.ensures

@@ -10,37 +10,9 @@ pub returns-then-most-eq0 : goal.returns-then-most-eq0
 returns-then-most-eq0 t c =
     none_put _ c.if-most-eq0.true
 
-pub overflow_cast-n : goal.overflow_cast-n
-overflow_cast-n t c =
-    omega (arith, c.if-n-lt10.true)
-
-pub overflow_add-n : goal.overflow_add-n
-overflow_add-n t c =
-    omega (arith, c.if-n-lt10.true)
-
-pub overflow_add-result : goal.overflow_add-result
-overflow_add-result t c =
-    omega (arith, c.requires)
-
 pub returns-then-n-lt10 : goal.returns-then-n-lt10
 returns-then-n-lt10 t c =
     one_put c.if-most-eq0.false c.if-n-lt10.true refl c.put_byte.ensures
-
-pub overflow_sub-most : goal.overflow_sub-most
-overflow_sub-most t c =
-    omega (arith, c.if-most-eq0.false)
-
-pub put_digits-next-requires : goal.put_digits-next-requires
-put_digits-next-requires t c =
-    (omega (arith, c.decreases, c.if-most-eq0.false), (c.requires.0, omega (arith, c.requires.1)))
-
-pub overflow_cast-n-2 : goal.overflow_cast-n-2
-overflow_cast-n-2 t c =
-    omega arith
-
-pub overflow_add-n-2 : goal.overflow_add-n-2
-overflow_add-n-2 t c =
-    omega arith
 
 pub overflow_add-result-2 : goal.overflow_add-result-2
 overflow_add-result-2 t c =

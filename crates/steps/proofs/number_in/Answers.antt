@@ -1,26 +1,26 @@
 -- `steps::number_in` meets its contract.
 -- Assumes nothing.
-use Rattle.steps.proofs.Expecting.{number_not, number_low, number_high, number_is}
+use mathlib.Core.Path.{◌≡◌}
+use mathlib.Core.Bool.{false, ◌&&◌}
+use Prim.Native.Nat.{◌≤◌}
+use lib.Dec.{leb}
 use native.Mathlib.Omega.{arith}
-use borrow.Enum.Refused.{opened}
+use Rattle.std.proofs.lemmas.Bool.Decides.{nat_tests}
+use Rattle.std.proofs.lemmas.Grind.{common_steps}
+use Rattle.steps.proofs.Expecting.{number_not, number_out, number_is}
+use Rattle.tokens.proofs.Numbers.{other_number}
 use Rattle.steps.proofs.number_in.Goals as goal
 
 pub returns-in_default : goal.returns-in_default
-returns-in_default c =
-    number_not _ _ c.token_at-t.ensures _ _ (opened c.in_default.in_default-own.keys2)
+returns-in_default c = number_not _ _ c.token_at-t.ensures _ _ (other_number _ c.in_default.not-Number)
 
-pub returns-then-n-low : goal.returns-then-n-low
-returns-then-n-low c =
-    number_low _ _ c.token_at-t.ensures _ _ c.requires.fact_2 c.requires.fact_3 c.in-Number.is c.if-n-low.true
-
-pub returns-then-high-n : goal.returns-then-high-n
-returns-then-high-n c =
-    number_high _ _ c.token_at-t.ensures _ _ c.requires.fact_2 c.requires.fact_3 c.in-Number.is c.if-n-low.false c.if-high-n.true
-
-pub overflow_cast-value : goal.overflow_cast-value
-overflow_cast-value c =
-    omega (arith, c.requires.fact_3, c.if-high-n.false)
+pub returns-then-not-fits : goal.returns-then-not-fits
+returns-then-not-fits c =
+    let e : (leb c.args.low c.in-Number.n && leb c.in-Number.n c.args.high) ≡ false = grind (arith, common_steps, nat_tests) in
+    number_out _ _ c.token_at-t.ensures _ _ c.requires.order c.requires.small c.in-Number.is e
 
 pub returns : goal.returns
 returns c =
-    number_is _ _ c.token_at-t.ensures _ _ c.requires.fact_2 c.requires.fact_3 c.in-Number.is c.if-n-low.false c.if-high-n.false c.requires.fact_1
+    let l : c.args.low ≤ c.in-Number.n = grind (arith, common_steps, nat_tests) in
+    let h : c.in-Number.n ≤ c.args.high = grind (arith, common_steps, nat_tests) in
+    number_is _ _ c.token_at-t.ensures _ _ c.requires.order c.requires.small c.in-Number.is l h c.requires.inside

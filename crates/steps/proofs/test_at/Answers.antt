@@ -1,21 +1,20 @@
 -- `steps::test_at` meets its contract.
 -- Assumes nothing.
+use mathlib.Core.Path.{refl, ap}
+use Rattle.tokens.specs.declared.Token.{Token}
+use Rattle.tokens.specs.Says.{kind_of}
+use Rattle.tokens.proofs.Numbers.{other_kind}
 use Rattle.steps.proofs.Expecting.{test_node, test_text, test_number}
-use native.Mathlib.Omega.{arith}
 use Rattle.steps.proofs.test_at.Goals as goal
 
-pub returns-then-kind-eq13 : goal.returns-then-kind-eq13
-returns-then-kind-eq13 c =
-    test_node _ _ c.token_at-t.ensures c.kind_of-kind.ensures c.if-kind-eq13.true c.requires
+pub returns-in-Node : goal.returns-in-Node
+returns-in-Node c =
+    test_node _ _ c.token_at-t.ensures refl (ap kind_of c.in-Node.is) c.requires
 
-pub returns-then-kind-eq14 : goal.returns-then-kind-eq14
-returns-then-kind-eq14 c =
-    test_text _ _ c.token_at-t.ensures c.kind_of-kind.ensures c.if-kind-eq14.true c.requires
+pub returns-in-Text : goal.returns-in-Text
+returns-in-Text c =
+    test_text _ _ c.token_at-t.ensures refl (ap kind_of c.in-Text.is) c.requires
 
-pub number_in-requires : goal.number_in-requires
-number_in-requires c =
-    record { fact_1 = c.requires; fact_2 = omega arith; fact_3 = omega arith }
-
-pub returns : goal.returns
-returns c =
-    test_number _ _ c.token_at-t.ensures c.kind_of-kind.ensures c.if-kind-eq13.false c.if-kind-eq14.false c.number_in.ensures
+pub returns-in_default : goal.returns-in_default
+returns-in_default c =
+    test_number _ _ c.token_at-t.ensures refl (other_kind _ Token.Node (λ v. refl) c.in_default.not-Node) (other_kind _ Token.Text (λ v. refl) c.in_default.not-Text) c.number_in.ensures

@@ -4,6 +4,7 @@ use mathlib.Core.Path.{refl}
 use Rattle.tokens.proofs.Runs.{running_next, running_stops, running_ends}
 use mathlib.Core.Path.{ap}
 use mathlib.Core.Bool.{not}
+use native.Mathlib.Omega.{arith}
 use Rattle.tokens.proofs.run_end.Goals as goal
 
 pub loop-i-init : goal.loop-i-init
@@ -20,4 +21,4 @@ loop-i-preserved c =
 
 pub returns : goal.returns
 returns c =
-    running_ends c.loop-i.invariant c.loop-i-test.false
+    omega (arith, running_ends c.loop-i.invariant c.loop-i-test.false, c.loop-i.invariant.inside)

@@ -63,8 +63,8 @@ overflow_add-place c =
 
 pub overflow_add-next : goal.overflow_add-next
 overflow_add-next c =
-    omega (arith, some_left _ _ c.requires c.run_end-place.ensures c.if-place-s.false, c.sign_of-sign.ensures.fact_2)
+    omega (arith, some_left _ _ c.requires c.run_end-place.ensures c.if-place-s.false, c.sign_of-token.ensures.short)
 
 pub returns : goal.returns
 returns c =
-    sign_tells _ _ c.run_end-place.ensures (some_left _ _ c.requires c.run_end-place.ensures c.if-place-s.false) c.passes.ensures c.if-passes.false c.passes-2.ensures c.if-passes-2.false c.byte_at.ensures c.sign_of-sign.ensures.fact_1
+    sign_tells _ _ c.run_end-place.ensures (some_left _ _ c.requires c.run_end-place.ensures c.if-place-s.false) c.passes.ensures c.if-passes.false c.passes-2.ensures c.if-passes-2.false c.byte_at.ensures c.sign_of-token.ensures.drawn

@@ -1,12 +1,7 @@
 -- `tokens::value_of` meets its contract.
 -- Assumes nothing.
-use Prim.Native.Nat.{◌-◌}
-use lib.ListN.{length}
 use Rattle.tokens.proofs.Decimals.{Valued}
 use Rattle.tokens.proofs.value_of.Given as goal
 
-abbrev pub invariant-loop-i : goal.invariant-loop-i
-invariant-loop-i l = Valued l.digits l.i l.n
-
-abbrev pub decreases-loop-i : goal.decreases-loop-i
-decreases-loop-i l = length l.digits - l.i
+abbrev pub invariant-loop-digit : goal.invariant-loop-digit
+invariant-loop-digit l = Valued l.digits l.digit-index l.n

@@ -4,4 +4,4 @@ use Rattle.truths.proofs.Telling.{tells_empty}
 use Rattle.truths.proofs.empty.Goals as goal
 
 pub returns : goal.returns
-returns c = tells_empty c.requires.fact_1 c.requires.fact_2 c.wide-i.ensures
+returns c = λ held places. tells_empty places c.requires c.from.ensures c.lookup-trees.ensures

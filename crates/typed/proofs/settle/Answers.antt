@@ -2,10 +2,8 @@
 use Rattle.typed.proofs.Leaving.{kept_settled, cleared_settled}
 use Rattle.typed.proofs.settle.Goals as goal
 
-pub returns-in-Entry : goal.returns-in-Entry
-returns-in-Entry c =
-    kept_settled c.in-Entry.is
+pub returns-in-Ok : goal.returns-in-Ok
+returns-in-Ok c = rw c.in-Ok.is (kept_settled _)
 
-pub returns-in-Refused : goal.returns-in-Refused
-returns-in-Refused c =
-    cleared_settled c.in-Refused.is c.refusal.ensures c.clear.ensures c.clear_nodes.ensures
+pub returns-in-Err : goal.returns-in-Err
+returns-in-Err c = rw c.in-Err.is (cleared_settled _ c.clear.ensures c.clear_nodes.ensures)

@@ -1,17 +1,18 @@
 -- `typed::type_job` meets its contract: what reading refuses is refused, and what it accepts is typed. Assumes nothing.
+use Rattle.std.proofs.lemmas.Result.{err_from_is_err_and}
 use Rattle.typed.proofs.Beginning.{job_ready}
-use Rattle.typed.proofs.Leaving.{job_accepted, job_typed_lem, job_stopped}
+use Rattle.typed.proofs.Leaving.{job_typed_lem, job_stopped}
 use Rattle.typed.proofs.type_job.Goals as goal
 
-pub type_tables-requires : goal.type_tables-requires
-type_tables-requires c =
-    job_ready _ (job_accepted _ c.read_job-read.ensures c.in-Accepted.is) c.read_job-read.auto.types c.read_job-read.auto.query
+pub returns-in_err-read : goal.returns-in_err-read
+returns-in_err-read c =
+    let p = err_from_is_err_and c.from_residual.result c.from_residual.ensures.1 in rw (p.1, p.2) (job_stopped _ _ c.in_err-read.ensures)
 
-pub returns-in-Refused : goal.returns-in-Refused
-returns-in-Refused c =
-    job_stopped _ c.read_job-read.ensures c.in-Refused.is c.refusal.ensures
+pub walk-made-requires : goal.walk-made-requires
+walk-made-requires c = job_ready _ c.in_ok-read.ensures c.read_job.auto.types c.read_job.auto.query
 
-pub returns-in-Accepted : goal.returns-in-Accepted
-returns-in-Accepted c =
-    let accepted = job_accepted _ c.read_job-read.ensures c.in-Accepted.is in
-    job_typed_lem _ accepted c.read_job-read.auto.types c.read_job-read.auto.query c.type_tables.ensures
+pub settle-requires : goal.settle-requires
+settle-requires c = (job_ready _ c.in_ok-read.ensures c.read_job.auto.types c.read_job.auto.query).code_inside
+
+pub returns : goal.returns
+returns c = job_typed_lem _ c.in_ok-read.ensures c.read_job.auto.types c.read_job.auto.query c.walk-made.ensures c.settle.ensures

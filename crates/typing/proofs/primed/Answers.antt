@@ -1,31 +1,22 @@
 -- `typing::primed` meets its contract: prime stops it, or its body comes.
 -- Assumes nothing.
+use Rattle.std.specs.Prelude as Std
+use Rattle.std.proofs.lemmas.Result.{err_from_is_err_and}
 use mathlib.Core.Path.{refl}
 use Rattle.words.proofs.Tables.{table_length}
-use Rattle.typing.proofs.Turning.{turn_done, turn_second, prime_stops, for_second, made_low, class_few, there}
+use Rattle.typing.proofs.Turning.{turn_done, turn_second, prime_stops, for_second, class_few}
 use native.Mathlib.Omega.{arith}
 use Rattle.typing.proofs.primed.Goals as goal
 
-pub returns-in_default : goal.returns-in_default
-returns-in_default c =
-    λ C p a l. turn_done _ _ _ _ _ _ _ _ _ a (prime_stops _ _ _ _ _ _ _ _ c.requires.fact_1 c.requires.fact_4 _ _ p _ c.requires.fact_3 c.prime-made.ensures refl c.in_default.is c.rise.ensures) refl
-
-pub overflow_cast-x : goal.overflow_cast-x
-overflow_cast-x c =
-    omega (arith, made_low c.in-Entry.is c.prime-made.ensures)
-
-pub bind-scope-requires : goal.bind-scope-requires
-bind-scope-requires c =
-    (omega (arith, c.wide.ensures, c.requires.fact_3.few), made_low c.in-Entry.is c.prime-made.ensures)
+pub returns-in_err-made : goal.returns-in_err-made
+returns-in_err-made c =
+    let x = err_from_is_err_and c.from_residual.result c.from_residual.ensures.1 in
+    λ C p a l. rw (x.1, x.2) (turn_done _ _ _ _ _ _ _ _ _ a (Std.Err _) (prime_stops _ _ _ _ _ _ _ _ c.requires.begins c.requires.low _ _ p _ c.requires.free c.in_err-made.ensures refl refl))
 
 pub overflow_add-class : goal.overflow_add-class
 overflow_add-class c =
-    omega (arith, class_few c.requires.fact_1 c.requires.fact_4)
-
-pub go_on-next-requires : goal.go_on-next-requires
-go_on-next-requires c =
-    c.requires.fact_5
+    omega (arith, class_few c.requires.begins c.requires.low)
 
 pub returns : goal.returns
 returns c =
-    λ C p a l. turn_second _ _ _ _ _ _ _ _ _ a refl l (for_second _ _ _ _ _ _ _ _ c.requires.fact_1 c.requires.fact_4 _ _ p _ c.requires.fact_3 c.prime-made.ensures _ _ c.in-Entry.is (c.requires.fact_1.ready.filled.right _ (rw table_length c.requires.fact_4)) c.wide.ensures c.bind-scope.ensures (there _ c.go_on-next.ensures.fact_1)) (omega arith) c.go_on-next.ensures.fact_2
+    λ C p a l. turn_second _ _ _ _ _ _ _ _ _ a refl l (for_second _ _ _ _ _ _ _ _ c.requires.begins c.requires.low _ _ p _ c.requires.free c.in_ok-made.ensures _ refl (c.requires.begins.ready.filled.right _ (rw table_length c.requires.low)) c.from.ensures c.bind.ensures) c.go_on.ensures.comes (omega arith) c.go_on.ensures.keeps

@@ -6,10 +6,10 @@ use Rattle.typing.proofs.walk.Given as goal
 
 abbrev pub invariant-loop-next : goal.invariant-loop-next
 invariant-loop-next l =
-    Going (record { defs = l.defs; used = l.used; code = l.code; nodes = l.nodes; types = l.initial.types; classes = l.initial.classes; count = l.count; scope = l.initial.here; start = l.n; marked = length l.initial.marks; deep = length l.initial.stack })
-    l.types l.classes l.marks l.stack l.here l.next
+    Going (record { defs = l.defs; code = l.code; types = l.initial.types; classes = l.initial.classes; count = l.count; scope = l.initial.scope; start = l.n; marked = length l.initial.marks; deep = length l.initial.stack })
+    l.types l.classes l.marks l.stack l.scope l.next
 
 abbrev pub decreases-loop-next : goal.decreases-loop-next
 decreases-loop-next l =
-    left (record { defs = l.defs; used = l.used; code = l.code; nodes = l.nodes; types = l.initial.types; classes = l.initial.classes; count = l.count; scope = l.initial.here; start = l.n; marked = length l.initial.marks; deep = length l.initial.stack })
+    left (record { defs = l.defs; code = l.code; types = l.initial.types; classes = l.initial.classes; count = l.count; scope = l.initial.scope; start = l.n; marked = length l.initial.marks; deep = length l.initial.stack })
     l.stack l.next

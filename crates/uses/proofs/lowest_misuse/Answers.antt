@@ -1,4 +1,4 @@
--- `uses::lowest_misuse` meets its contract: the lowest from here on is the lowest (`Seeking`); the measure is how many nodes are left. Assumes nothing.
+-- `uses::lowest_misuse` meets its contract: the lowest from here on is the lowest (`Seeking`). Assumes nothing.
 use native.Mathlib.Omega.{arith}
 use mathlib.Core.Path.{ap}
 use mathlib.Core.Bool.{not}

@@ -1,5 +1,4 @@
--- `uses::lowest_misuse` meets its contract: the lowest from here on is the lowest (`Seeking`); the measure is how many nodes are left. Assumes nothing.
-use Prim.Native.Nat.{◌-◌}
+-- `uses::lowest_misuse` meets its contract: the lowest from here on is the lowest (`Seeking`). Assumes nothing.
 use mathlib.Core.Bool.{not}
 use lib.Dec.{eqb}
 use lib.ListN.{get_or}
@@ -7,7 +6,4 @@ use Rattle.meaning.proofs.Searches.{Seeking}
 use Rattle.uses.proofs.lowest_misuse.Given as goal
 
 abbrev pub invariant-loop-q : goal.invariant-loop-q
-invariant-loop-q l = Seeking (λ i. not (eqb (get_or l.counts i 0) 1)) (l.nodes - 1) l.q
-
-abbrev pub decreases-loop-q : goal.decreases-loop-q
-decreases-loop-q l = l.nodes - l.q
+invariant-loop-q l = Seeking (λ i. not (eqb (get_or l.counts i 0) 1)) l.nodes l.q

@@ -6,9 +6,7 @@ pub returns-then-n-eq0 : goal.returns-then-n-eq0
 returns-then-n-eq0 c = single_none _ _ _ c.if-n-eq0.true
 
 pub returns-in_default : goal.returns-in_default
-returns-in_default c =
-    single_wrong _ _ _ c.if-n-eq0.false c.entry_at.ensures c.in_default.is
+returns-in_default c = single_wrong _ _ _ c.if-n-eq0.false c.in_default.ensures
 
 pub returns : goal.returns
-returns c =
-    single_there _ _ _ c.if-n-eq0.false c.entry_at.ensures c.in-There.is
+returns c = single_there _ _ _ c.if-n-eq0.false c.in-Ok.ensures

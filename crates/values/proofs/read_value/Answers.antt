@@ -1,15 +1,24 @@
 -- `values::read_value` meets its contract: the record 66 is wrong, or the forest behind it decides. Assumes nothing.
-use Rattle.values.proofs.Valuing.{value_inside, value_stops, value_gives}
+use native.Mathlib.Omega.{arith}
+use Rattle.std.proofs.lemmas.Result.{err_from_is_err_and}
+use Rattle.values.proofs.Valuing.{value_inside, value_stops, value_gives, forest_wrong, forest_given}
 use Rattle.values.proofs.read_value.Goals as goal
 
-pub read_entries-requires : goal.read_entries-requires
-read_entries-requires c =
-    record { fact_1 = value_inside _ _ _ c.head_at.ensures c.in-There.is; fact_2 = c.requires.fact_2; fact_3 = c.requires.fact_3; fact_4 = c.requires.fact_4 }
+pub returns-in_err-x : goal.returns-in_err-x
+returns-in_err-x c =
+    let p = err_from_is_err_and c.from_residual.result c.from_residual.ensures.1 in
+    rw (p.1, p.2) (value_stops _ _ _ c.in_err-x.ensures)
 
-pub returns-in-Wrong : goal.returns-in-Wrong
-returns-in-Wrong c =
-    value_stops _ _ _ c.head_at.ensures c.in-Wrong.is
+pub read_forest-requires-clause-inside : goal.read_forest-requires-clause-inside
+read_forest-requires-clause-inside c = value_inside _ _ _ c.in_ok-x.ensures
 
-pub returns-in-There : goal.returns-in-There
-returns-in-There c =
-    value_gives _ _ _ c.head_at.ensures c.in-There.is c.read_entries.ensures
+pub returns-in_err-next : goal.returns-in_err-next
+returns-in_err-next c =
+    let p = err_from_is_err_and c.from_residual-in_err-next.result c.from_residual-in_err-next.ensures.1 in
+    rw (p.1, p.2) (value_gives _ _ _ c.in_ok-x.ensures (forest_wrong c.in_err-next.ensures))
+
+pub is_odd-odd-requires : goal.is_odd-odd-requires
+is_odd-odd-requires c = value_inside _ _ _ c.in_ok-x.ensures
+
+pub returns : goal.returns
+returns c = value_gives _ _ _ c.in_ok-x.ensures (forest_given _ _ _ c.in_ok-next.ensures (omega (arith, c.type_inv)) c.is_odd-odd.ensures)

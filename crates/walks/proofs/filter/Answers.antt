@@ -6,7 +6,7 @@ use Rattle.walks.proofs.filter.Goals as goal
 
 pub returns-then-passes_all : goal.returns-then-passes_all
 returns-then-passes_all c =
-    rw (filter_all _ _ _ _ _ c.if-passes_all.true) (left_here c.requires.fact_1.0 c.requires.fact_1.1)
+    rw (filter_all _ _ _ _ _ c.if-passes_all.true) (left_here c.requires.ready.0 c.requires.ready.1)
 
 pub returns : goal.returns
 returns c =

@@ -1,20 +1,16 @@
--- `walks::over` meets its contract.
+-- `walks::over` meets its contract: a first part is read for its second.
 -- Assumes nothing.
-use Rattle.walks.proofs.Turns.{over_low, over_half, over_alone, over_joined}
+use mathlib.Core.Path.{ap, ◌∙◌}
+use native.Mathlib.Omega.{arith}
+use Rattle.walks.specs.declared.Frame.{Frame}
+use Rattle.walks.specs.declared.Then.{Then}
+use Rattle.walks.specs.Frames.{second}
 use Rattle.walks.proofs.over.Goals as goal
 
-pub read-e-requires : goal.read-e-requires
-read-e-requires c =
-    (over_low c.args.types.now c.args.count c.args.w c.if-w-lt24576.true c.requires.fact_2 c.wide.ensures, c.requires.fact_1)
+pub get-x-requires : goal.get-x-requires
+get-x-requires c =
+    let halved = rw c.in-Half.is at c.requires.halved in omega (arith, c.from.ensures, halved.0)
 
-pub returns-then-w-lt24576 : goal.returns-then-w-lt24576
-returns-then-w-lt24576 c =
-    over_half c.args.types.now c.args.count c.args.w c.if-w-lt24576.true c.requires.fact_2 _ c.wide.ensures c.read-e.ensures c.wide-then-w-lt24576.ensures
-
-pub returns-then-w-lt36864 : goal.returns-then-w-lt36864
-returns-then-w-lt36864 c =
-    over_alone c.args.types.now c.args.count c.args.w c.if-w-lt24576.false c.if-w-lt36864.true _
-
-pub returns : goal.returns
-returns c =
-    over_joined c.args.types.now c.args.count c.args.w c.if-w-lt36864.false _
+pub returns-in-Half : goal.returns-in-Half
+returns-in-Half c =
+    rw c.in-Half.is (ap (Then.Second (Frame.Joined c.in-Half.kind c.args.«at»)) (c.second.ensures ∙ ap second (rw c.from.ensures at c.get-x.ensures)))

@@ -1,106 +1,77 @@
 -- `walks::walk` meets its contract: what is left to do, at the entry or with the answer that it has come to, is the whole (`Going`).
 -- Assumes nothing.
-use mathlib.Core.Path.{refl, ◌∙◌}
-use native.Mathlib.Omega.{arith}
-use Rattle.walks.proofs.Going.{one_less, going_start, down_place, down_room, down_short, down_going, down_less, up_done, up_word, up_inside, up_halved, up_room, up_second, up_second_less, up_appends, up_full, up_less, up_more, at_entry, at_end, at_frame}
+use Rattle.std.proofs.lemmas.Result.{err_from_is_err_and}
+use mathlib.Core.Path.{refl}
+use Rattle.walks.proofs.Going.{one_less, going_start, held_inside, down_formed, down_low, down_going, down_less, up_done, up_halved, up_fit, up_second, up_second_less, up_appends, up_full, up_less, up_more, at_entry, at_end, at_frame}
 use Rattle.walks.proofs.walk.Goals as goal
 
 pub loop-next-init : goal.loop-next-init
 loop-next-init c =
-    going_start _ c.requires.fact_1.0 _ c.requires.fact_1.1 refl
-
-pub down-next-requires : goal.down-next-requires
-down-next-requires c =
-    let s = at_entry _ c.loop-next.invariant c.in-Down.is in
-    record { fact_1 = down_place _ c.requires.fact_1.0 s; fact_2 = down_room _ c.requires.fact_1.0 s c.requires.fact_2; fact_3 = down_short _ c.requires.fact_1.0 s c.requires.fact_2 }
+    going_start _ c.requires.ready.0 _ c.requires.ready.1 refl
 
 pub loop-next-smaller-in-Down : goal.loop-next-smaller-in-Down
 loop-next-smaller-in-Down c =
     let s = at_entry _ c.loop-next.invariant c.in-Down.is in
-    down_less _ c.requires.fact_1.0 s c.requires.fact_2 c.down-next.ensures.fact_1 c.down-next.ensures.fact_2 c.in-Down.is
+    down_less _ c.requires.ready.0 s c.requires.enough _ (rw c.new-known.ensures at c.down-next.ensures.next) (rw c.new-known.ensures at c.down-next.ensures.pushed) c.in-Down.is
 
 pub loop-next-preserved-in-Down : goal.loop-next-preserved-in-Down
 loop-next-preserved-in-Down c =
     let s = at_entry _ c.loop-next.invariant c.in-Down.is in
-    down_going _ c.requires.fact_1.0 s c.requires.fact_2 c.down-next.ensures.fact_1 c.down-next.ensures.fact_2
-
-pub shape_of-types-then-top-eq0 : goal.shape_of-types-then-top-eq0
-shape_of-types-then-top-eq0 c =
-    (at_end _ c.loop-next.invariant c.in-Up.is c.if-top-eq0.true).held.long
-
-pub shape_of-classes-then-top-eq0 : goal.shape_of-classes-then-top-eq0
-shape_of-classes-then-top-eq0 c =
-    (at_end _ c.loop-next.invariant c.in-Up.is c.if-top-eq0.true).held.longs
-
-pub shape_of-stack-then-top-eq0 : goal.shape_of-stack-then-top-eq0
-shape_of-stack-then-top-eq0 c =
-    (at_end _ c.loop-next.invariant c.in-Up.is c.if-top-eq0.true).held.deep
+    down_going _ c.requires.ready.0 s c.requires.enough _ (rw c.new-known.ensures at c.down-next.ensures.next) (rw c.new-known.ensures at c.down-next.ensures.pushed)
 
 pub returns-then-top-eq0 : goal.returns-then-top-eq0
 returns-then-top-eq0 c =
-    up_done _ c.requires.fact_1.0 (at_end _ c.loop-next.invariant c.in-Up.is c.if-top-eq0.true)
+    up_done _ c.requires.ready.0 (at_end _ c.loop-next.invariant c.in-Up.is c.if-top-eq0.true)
 
-pub offset_bounds-stack-i : goal.offset_bounds-stack-i
-offset_bounds-stack-i c =
-    omega (arith, (at_frame _ c.loop-next.invariant c.in-Up.is c.if-top-eq0.false).short)
-
-pub bounds-stack-i : goal.bounds-stack-i
-bounds-stack-i c =
-    up_room _ c.requires.fact_1.0 (at_frame _ c.loop-next.invariant c.in-Up.is c.if-top-eq0.false) c.requires.fact_2
-
-pub over-then-requires : goal.over-then-requires
-over-then-requires c =
+pub word-requires : goal.word-requires
+word-requires c =
     let s = at_frame _ c.loop-next.invariant c.in-Up.is c.if-top-eq0.false in
-    record { fact_1 = up_inside _ c.requires.fact_1.0 s; fact_2 = up_halved _ c.requires.fact_1.0 s; fact_3 = up_word _ c.requires.fact_1.0 s }
-
-pub offset_bounds-stack-i-in-Second : goal.offset_bounds-stack-i-in-Second
-offset_bounds-stack-i-in-Second c =
-    omega (arith, (at_frame _ c.loop-next.invariant c.in-Up.is c.if-top-eq0.false).short)
-
-pub bounds-stack-i-in-Second : goal.bounds-stack-i-in-Second
-bounds-stack-i-in-Second c =
-    up_room _ c.requires.fact_1.0 (at_frame _ c.loop-next.invariant c.in-Up.is c.if-top-eq0.false) c.requires.fact_2
+    up_fit _ c.requires.ready.0 s c.requires.enough (rw (c.new-known-in-Up.ensures, c.of_word.ensures) at c.over-then.ensures) c.in-Second.is
 
 pub loop-next-smaller-in-Second : goal.loop-next-smaller-in-Second
 loop-next-smaller-in-Second c =
     let s = at_frame _ c.loop-next.invariant c.in-Up.is c.if-top-eq0.false in
-    up_second_less _ c.requires.fact_1.0 s c.requires.fact_2 c.over-then.ensures c.in-Second.is (one_less c.if-top-eq0.false) c.in-Up.is
+    up_second_less _ c.requires.ready.0 s c.requires.enough (rw (c.new-known-in-Up.ensures, c.of_word.ensures) at c.over-then.ensures) c.in-Second.is _ c.word.ensures (one_less c.if-top-eq0.false) c.in-Up.is
 
 pub loop-next-preserved-in-Second : goal.loop-next-preserved-in-Second
 loop-next-preserved-in-Second c =
     let s = at_frame _ c.loop-next.invariant c.in-Up.is c.if-top-eq0.false in
-    up_second _ c.requires.fact_1.0 s c.requires.fact_2 c.over-then.ensures c.in-Second.is (one_less c.if-top-eq0.false)
-
-pub append-made-requires : goal.append-made-requires
-append-made-requires c =
-    (at_frame _ c.loop-next.invariant c.in-Up.is c.if-top-eq0.false).held.ready.long
-
-pub shape_of-types-in_default : goal.shape_of-types-in_default
-shape_of-types-in_default c =
-    c.append-made.auto.types ∙ (at_frame _ c.loop-next.invariant c.in-Up.is c.if-top-eq0.false).held.long
-
-pub shape_of-classes-in_default : goal.shape_of-classes-in_default
-shape_of-classes-in_default c =
-    c.append-made.auto.classes ∙ (at_frame _ c.loop-next.invariant c.in-Up.is c.if-top-eq0.false).held.longs
-
-pub shape_of-stack-in_default : goal.shape_of-stack-in_default
-shape_of-stack-in_default c =
-    (at_frame _ c.loop-next.invariant c.in-Up.is c.if-top-eq0.false).held.deep
-
-pub returns-in_default : goal.returns-in_default
-returns-in_default c =
-    let s = at_frame _ c.loop-next.invariant c.in-Up.is c.if-top-eq0.false in
-    let x = up_appends _ c.requires.fact_1.0 s c.requires.fact_2 c.over-then.ensures c.in-Append.is in
-    up_full _ c.requires.fact_1.0 s x c.append-made.ensures c.in_default.is
+    up_second _ c.requires.ready.0 s c.requires.enough (rw (c.new-known-in-Up.ensures, c.of_word.ensures) at c.over-then.ensures) c.in-Second.is _ c.word.ensures (one_less c.if-top-eq0.false)
 
 pub loop-next-smaller : goal.loop-next-smaller
 loop-next-smaller c =
     let s = at_frame _ c.loop-next.invariant c.in-Up.is c.if-top-eq0.false in
-    let x = up_appends _ c.requires.fact_1.0 s c.requires.fact_2 c.over-then.ensures c.in-Append.is in
-    up_less _ c.requires.fact_1.0 s x c.append-made.ensures (one_less c.if-top-eq0.false) c.in-Up.is
+    let x = up_appends _ c.requires.ready.0 s c.requires.enough (rw (c.new-known-in-Up.ensures, c.of_word.ensures) at c.over-then.ensures) c.in-Append.is in
+    up_less _ c.requires.ready.0 s x c.append.ensures (one_less c.if-top-eq0.false) c.in-Up.is
 
 pub loop-next-preserved : goal.loop-next-preserved
 loop-next-preserved c =
     let s = at_frame _ c.loop-next.invariant c.in-Up.is c.if-top-eq0.false in
-    let x = up_appends _ c.requires.fact_1.0 s c.requires.fact_2 c.over-then.ensures c.in-Append.is in
-    up_more _ c.requires.fact_1.0 s x c.append-made.ensures c.in-Entry.is
+    let x = up_appends _ c.requires.ready.0 s c.requires.enough (rw (c.new-known-in-Up.ensures, c.of_word.ensures) at c.over-then.ensures) c.in-Append.is in
+    up_more _ c.requires.ready.0 s x c.append.ensures c.in_ok-made-in-Append.was
+
+pub returns-in_err-made-in-Append : goal.returns-in_err-made-in-Append
+returns-in_err-made-in-Append c =
+    let s = at_frame _ c.loop-next.invariant c.in-Up.is c.if-top-eq0.false in
+    let x = up_appends _ c.requires.ready.0 s c.requires.enough (rw (c.new-known-in-Up.ensures, c.of_word.ensures) at c.over-then.ensures) c.in-Append.is in
+    let p = err_from_is_err_and c.from_residual.result c.from_residual.ensures.1 in
+    rw (p.1, p.2) (up_full _ c.requires.ready.0 s x c.in_err-made-in-Append.ensures refl)
+
+pub new-known-requires : goal.new-known-requires
+new-known-requires c = held_inside _ c.requires.ready.0 (at_entry _ c.loop-next.invariant c.in-Down.is).held
+
+pub new-known-requires-in-Up : goal.new-known-requires-in-Up
+new-known-requires-in-Up c =
+    held_inside _ c.requires.ready.0 (at_frame _ c.loop-next.invariant c.in-Up.is c.if-top-eq0.false).held
+
+pub down-next-requires-clause-formed : goal.down-next-requires-clause-formed
+down-next-requires-clause-formed c =
+    rw c.new-known.ensures (down_formed _ c.requires.ready.0 (at_entry _ c.loop-next.invariant c.in-Down.is))
+
+pub down-next-requires-clause-low : goal.down-next-requires-clause-low
+down-next-requires-clause-low c =
+    rw c.new-known.ensures (down_low _ c.requires.ready.0 (at_entry _ c.loop-next.invariant c.in-Down.is))
+
+pub over-then-requires-clause-halved : goal.over-then-requires-clause-halved
+over-then-requires-clause-halved c =
+    rw (c.new-known-in-Up.ensures, c.of_word.ensures) (up_halved _ c.requires.ready.0 (at_frame _ c.loop-next.invariant c.in-Up.is c.if-top-eq0.false))

@@ -1,17 +1,14 @@
--- `words::copy` meets its contract.
--- Assumes nothing.
-use mathlib.Core.Path.{refl}
-use lib.ListN.{length-set}
-use lib.Seq.{paste-zero}
-use Rattle.words.proofs.Stores.{copied_more, copied_all}
-use borrow.Author.Rules.{rules}
+-- `words::copy` meets its contract: the library copies to the front. Assumes nothing.
+use mathlib.Core.Path.{ap, ◌∙◌}
+use mathlib.Core.List.{List, ◌++◌}
+use Prim.Native.Nat.{ℕ, ◌+◌}
+use native.Mathlib.Omega.{arith}
+use lib.ListN.{length, drop}
+use Rattle.words.specs.Tables.{stored}
 use Rattle.words.proofs.copy.Goals as goal
 
-pub loop-i-init : goal.loop-i-init
-loop-i-init c = (search rules, refl, paste-zero _ 0 c.args.from.now)
-
-pub loop-i-preserved : goal.loop-i-preserved
-loop-i-preserved c = (search rules, simp length-set (search rules), copied_more _ _ _ _ c.loop-i.invariant.2 (search rules) (search rules))
-
 pub returns : goal.returns
-returns c = copied_all _ _ _ _ c.loop-i.invariant (search rules)
+unfolding stored
+returns c =
+    ap (λ (x : List ℕ). x ++ drop (length c.args.from.now) c.args.to.now) c.copy_from_slice.ensures.after
+    ∙ ap (λ (n : ℕ). c.args.from.now ++ drop n c.args.to.now) {x = length c.args.from.now} {y = 0 + length c.args.from.now} (omega arith)

@@ -4,7 +4,7 @@ use Rattle.written.proofs.Turns.{Walking, measure}
 use Rattle.written.proofs.walk.Given as goal
 
 abbrev pub invariant-loop-top : goal.invariant-loop-top
-invariant-loop-top l = Walking l.code l.nodes l.initial.stack l.stack l.initial.text l.text l.top l.at l.begun l.wide l.deep
+invariant-loop-top l = Walking l.code l.initial.stack l.stack l.initial.text l.text l.top l.at l.last l.low
 
 abbrev pub decreases-loop-top : goal.decreases-loop-top
-decreases-loop-top l = measure l.code l.nodes l.stack l.top
+decreases-loop-top l = measure l.code l.stack l.top

@@ -3,9 +3,9 @@
 use Rattle.written.proofs.Leaving.{left_deep, left_short, left_written}
 use Rattle.written.proofs.write_with.Goals as goal
 
-pub returns-in-At : goal.returns-in-At
-returns-in-At c =
-    left_deep c.walk-told.ensures c.in-At.is c.clear_bytes.ensures
+pub returns-in-Some : goal.returns-in-Some
+returns-in-Some c =
+    left_deep c.walk-told.ensures c.in-Some.is c.clear_bytes.ensures
 
 pub returns-then-text-bytes : goal.returns-then-text-bytes
 returns-then-text-bytes c =

@@ -1,0 +1,2 @@
+-- Laws of types by the kind of their entry.
+pub mod Numbers

@@ -1,0 +1,2 @@
+-- The code's types by their entries.
+pub mod Says

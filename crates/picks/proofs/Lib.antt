@@ -1,2 +1,0 @@
--- Laws of the stretches of variables.
-pub mod Looking

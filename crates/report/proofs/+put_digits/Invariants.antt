@@ -1,5 +1,0 @@
--- Fewer digits are left to put.
-use Rattle.report.proofs.+put_digits.Given as goal
-
-abbrev pub decreases-put_digits : goal.decreases-put_digits
-decreases-put_digits l = l.most

@@ -1,0 +1,2 @@
+-- Laws of what a lent table is seen as.
+pub mod Rows

@@ -1,0 +1,8 @@
+-- `tables::Nodes::len` meets its contract. Assumes nothing.
+use mathlib.Core.Path.{sym, ap, ◌∙◌}
+use Rattle.std.proofs.Common.{length}
+use Rattle.words.proofs.Tables.{code_length}
+use Rattle.tables.proofs.Nodes.len.Goals as goal
+
+pub returns : goal.returns
+returns c = sym (code_length _ _) ∙ ap length c.self.view_is

@@ -1,0 +1,2 @@
+-- Declared variables by their words.
+pub mod Rows

@@ -1,9 +1,0 @@
--- The bytes passed are zero; the measure is what is left of the length.
-use Rattle.std.proofs.Common.{◌≡◌, ℕ, ◌-◌, ◌≤◌, ◌<◌, length, get_or}
-use Rattle.worked.proofs.is_clean_after.Given as goal
-
-abbrev pub invariant-loop-i : goal.invariant-loop-i
-invariant-loop-i l = (l.from ≤ l.i) × ((k : ℕ) → k < l.i → l.from ≤ k → get_or l.bytes k 0 ≡ 0)
-
-abbrev pub decreases-loop-i : goal.decreases-loop-i
-decreases-loop-i l = length l.bytes - l.i
