@@ -87,10 +87,9 @@ pub fn look(mode: Mode, types: &Types, defs: &[u16], e: usize) -> Act
     requires low { e < length types.now }
     ensures { result ≡ act_of mode defs.now e (at types.now e) }
 {
-    let x = types.get(e);
     match mode {
-        Mode::Prime => prime_act(defs, x, e),
-        Mode::Content => content_act(x),
-        Mode::Sift(test) => sift_act(test, defs, x, e),
+        Mode::Prime => prime_act(defs, types.get(e), e),
+        Mode::Content => content_act(types.get(e)),
+        Mode::Sift(test) => sift_act(test, defs, types.get(e), e),
     }
 }

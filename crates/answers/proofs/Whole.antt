@@ -44,11 +44,12 @@ module _ {T : Table} {D : Defs} {result : ℕ} (r : Ready T D result) where
   result_small = omega (arith, r.low, r.formed.few)
 
   -- its parts, one behind the other
-  pub file_put : {from last next : ℕ} {t u v x : List ℕ} → Extends 0 from (type_bytes T) t u → Extends from last (def_bytes D) u v
-      → Extends last next (record_of Kinds.record·result (result ∷ [])) v x → Extends 0 (length file) file t x
+  pub file_put : {from last here next : ℕ} {t u v x : List ℕ} → Extends 0 from (type_bytes T) t u → Extends from last (def_bytes D) u v
+      → here ≡ last → Extends here next (record_of Kinds.record·result (result ∷ [])) v x → Extends 0 (length file) file t x
   unfolding answer_file
-  file_put {next = next} {t = t} {x = x} one two three =
-      let all = extends_then one (extends_then two three) in
+  file_put {next = next} {t = t} {v = v} {x = x} one two behind three =
+      let end = subst (λ (n : ℕ). Extends n next (record_of Kinds.record·result (result ∷ [])) v x) behind three in
+      let all = extends_then one (extends_then two end) in
       let place : next ≡ length file = omega (arith, all.next) in
       subst (λ (n : ℕ). Extends 0 n file t x) place all
 

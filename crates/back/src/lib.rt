@@ -32,8 +32,10 @@ fn judge(bytes: usize, types: &[u16], read: &Read) -> Result<usize, Refusal>
     };
     let known = Types::new(types, read.types);
     let defs = &read.given.defs[..read.given.used];
-    guard::check_types(&known, defs)?;
-    Ok(usize::from(result))
+    match guard::check_types(&known, defs) {
+        Ok(()) => Ok(usize::from(result)),
+        Err(refusal) => Err(refusal),
+    }
 }
 
 // The file that was read: it passes and stays, or the table is cleared.

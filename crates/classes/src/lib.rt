@@ -110,7 +110,8 @@ fn class_in(classes: &[u16], e: u16) -> Class
     Class::of_word(part(classes, e))
 }
 
-// The class of an entry that is no name, from the classes of its parts.
+// The class of an entry that is no name, from the classes of its parts. It is compiled into its callers: an entry is taken apart once.
+#[inline(always)]
 fn from_parts(x: Ty, classes: &[u16]) -> Class
     ensures { From classes.now (shown x) (code_of (meant result)) }
 {
@@ -126,6 +127,7 @@ fn from_parts(x: Ty, classes: &[u16]) -> Class
 }
 
 // The class of an entry to be appended, where those before it have theirs.
+#[inline(always)]
 pub fn class_of(kind: u16, a: u16, b: u16, classes: &[u16]) -> u16
     ensures { (D : Defs) (T : Table) → Formed D T → Filled D T classes.now → Lower (length T) (entry_of kind a b) → name_of (entry_of kind a b) ≡ none → length T < 4096 → result ≡ code_of (quant (shape D (T ++ (entry_of kind a b ∷ [])) (length T))) }
 {

@@ -21,7 +21,7 @@ fn known(scope: &Scope, n: usize, v: u16) -> Result<Var, Refusal>
     requires { v ≤ 63 }
     ensures { Answers scope.now (variable_told result) (λ g. lookup n g v) }
 {
-    let (_, x) = scope.lookup(usize::from(v));
+    let x = scope.get(usize::from(v));
     x.ok_or(Refusal {
         reason: Reason::NotInScope,
         place: n,
@@ -56,7 +56,7 @@ pub fn unbound(scope: &Scope, n: usize, v: u16) -> Result<(), Refusal>
     requires { v ≤ 63 }
     ensures { Answers scope.now (told result) (λ g. Rattle.meaning.specs.Typing.unbound n g v) }
 {
-    let (_, x) = scope.lookup(usize::from(v));
+    let x = scope.get(usize::from(v));
     match x {
         None => Ok(()),
         Some(_) => Err(Refusal {

@@ -1,11 +1,11 @@
--- The rule of dos: the star of the unions, over the atoms that are reached; and no atom.
+-- The rule of dos: the star of the unions, over the atoms that are reached; no atom; and how a caller meets what the rule asks.
 -- Assumes nothing.
 use mathlib.Core.Path.{◌≡◌}
 use mathlib.Core.Bool.{Bool, true}
 use mathlib.Core.List.{List, [], ◌∷◌}
-use Prim.Native.Nat.{ℕ, ◌+◌, ◌-◌}
+use Prim.Native.Nat.{ℕ, ◌+◌, ◌*◌, ◌-◌, ◌≤◌}
 use native.Mathlib.Omega.{arith}
-use lib.ListN.{length}
+use lib.ListN.{length, take}
 use Rattle.std.specs.Prelude as Std
 use Rattle.std.specs.Prelude.{Result}
 use Rattle.refusals.specs.declared.Refusal.{Refusal}
@@ -17,8 +17,9 @@ use Rattle.meaning.specs.Rules.{append, star_of, dos_rule}
 use Rattle.words.specs.declared.Entry as Words
 use Rattle.words.specs.Tables.{table_of}
 use Rattle.words.proofs.Tables.{table_length}
-use Rattle.reach.specs.Marks.{marks_of}
+use Rattle.reach.specs.Marks.{marks_of, Given}
 use Rattle.reach.specs.Atoms.{picked, Next}
+use Rattle.reach.proofs.Steps.{given_taken}
 use Rattle.reach.proofs.Atoms.{atoms_one, atoms_none}
 use Rattle.grow.specs.Grow.{Ready, Left}
 use Rattle.grow.specs.declared.Made.{Made}
@@ -51,3 +52,14 @@ module _ {D : Defs} {ws cs : List ℕ} (ms : List ℕ) {count : ℕ} (e node tes
       → Left D ws us cs ds r (dos_rule (type_capacity (length ws)) node D test e (table_of ws count))
   unfolding dos_rule
   dos_some next g = rw (rw (known, table_length) at (atoms_one D T e ms test marks next)) g
+
+-- WHAT A CALLER HAS: the definitions in use are the first so many of those lent; and marks for every entry that a table may have
+module _ {D : Defs} {ws cs : List ℕ} {count : ℕ} (R : Ready D ws cs count) where
+  pub given_ready : {defs : List ℕ} (used : ℕ) → used ≤ length defs → D ≡ take used defs → Given (table_of ws count) defs D
+  given_ready used l p = given_taken R.formed used l p
+
+  pub dos_ready : {defs : List ℕ} (used : ℕ) → used ≤ length defs → D ≡ take used defs → (E : Defs) × Ready E ws cs count × Given (table_of ws count) defs E
+  dos_ready used l p = (D, R, given_ready used l p)
+
+  pub marks_ready : (ms : List ℕ) → 8192 ≤ length ms → 2 * count ≤ length ms
+  marks_ready ms h = omega (arith, R.lent.fits)

@@ -6,7 +6,7 @@ ghost use Rattle.meaning.specs.Base.{type_capacity, kept_from};
 ghost use Rattle.meaning.specs.Types.{Defs};
 ghost use Rattle.meaning.specs.Rules.{unions, star_of, dos_rule};
 ghost use Rattle.words.specs.Tables.{table_of};
-ghost use Rattle.reach.specs.Marks.{marks_of};
+ghost use Rattle.reach.specs.Marks.{marks_of, Given};
 ghost use Rattle.reach.specs.Atoms.{picked};
 ghost use Rattle.grow.specs.Grow.{Ready, Left};
 
@@ -72,10 +72,10 @@ pub fn dos_rule(
     e: usize,
     marks: &mut [u16],
 ) -> Result<Made, Refusal>
-    requires ready { Ready defs.now types.old classes.old count }
+    requires ready { ((D : Defs) × Ready D types.old classes.old count × Given (table_of types.old count) defs.now D) }
     requires low { e < count }
     requires marked { 2 * count ≤ length marks.old }
-    ensures { Left defs.now types.old types.new classes.old classes.new result (dos_rule (type_capacity (length types.old)) node defs.now test e (table_of types.old count)) }
+    ensures { (D : Defs) → Ready D types.old classes.old count → Given (table_of types.old count) defs.now D → Left D types.old types.new classes.old classes.new result (dos_rule (type_capacity (length types.old)) node D test e (table_of types.old count)) }
 {
     let known = Types::new(types, count);
     reach::reach(&known, defs, e, marks);

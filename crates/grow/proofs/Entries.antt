@@ -1,4 +1,4 @@
--- That what stands in an entry stands in the table; and the entries that may be appended.
+-- A name that `read` reads; that what stands in an entry stands in the table; and the entries that may be appended.
 -- Assumes nothing.
 use mathlib.Core.Path.{◌≡◌, refl, ap, sym, ◌∙◌}
 use mathlib.Core.Bool.{Bool, true}
@@ -15,7 +15,12 @@ use Rattle.meaning.proofs.Lists.{at_low, at_get_or}
 use Rattle.meaning.proofs.Guard.{steps_low, name_at}
 use Rattle.words.specs.declared.Entry as Words
 use Rattle.words.proofs.Tables.{entry_made}
-use Rattle.grow.specs.Grow.{New}
+use Rattle.words.proofs.Entries.{kind_name}
+use Rattle.grow.specs.Grow.{Shows, New}
+
+-- A NAME that was read
+pub shows_name : {T : Table} {e : ℕ} {w : Words.Entry} → Shows T e w → w.kind ≡ 9 → At T e (Types.name w.a)
+shows_name {w = w} h p = rw (kind_name w.a w.b p) at h.is
 
 -- WHAT STANDS IN AN ENTRY
 module _ {D : Defs} {T : Table} (F : Formed D T) {e : ℕ} where

@@ -2,14 +2,19 @@
 -- Assumes nothing.
 use Rattle.std.specs.Prelude.{◌≡◌, Result, Ok, Err, List, [], ◌∷◌, ℕ, ◌<◌, ◌≤◌, length}
 use Rattle.std.proofs.Math.Option.{none}
-use Rattle.meaning.specs.Base.{Out, padded, type_capacity}
-use Rattle.meaning.specs.Types.{Entry, Table, Defs, entry_words, table_words, name_of}
+use Rattle.meaning.specs.Base.{At, Out, padded, type_capacity}
+use Rattle.meaning.specs.Types.{Entry, Table, Defs, entry_words, table_words, entry_of, name_of}
 use Rattle.meaning.specs.Formed.{Lower, Formed}
 use Rattle.refusals.specs.declared.Refusal.{Refusal}
 use Rattle.refusals.specs.Says.{out}
 use Rattle.words.specs.Tables.{table_of}
+use Rattle.words.specs.declared.Entry as Words
 use Rattle.classes.specs.Classes.{Filled}
 use Rattle.grow.specs.declared.Made.{Made}
+
+-- the words w are those of entry e
+pub record Shows (T : Table) (e : ℕ) (w : Words.Entry) : Type 0 where
+  pub is : At T e (entry_of w.kind w.a w.b)
 
 -- lent words: n entries, which they have room for, and then zeros
 pub record Lent (ws : List ℕ) (n : ℕ) : Type 0 where

@@ -1,12 +1,13 @@
-// A type table that typing grows, an entry at a time, with the class of every entry beside it.
+// A type table that typing grows, an entry at a time, with the class of every entry beside it. An entry's words are read by `read`, and entries are added by
+// `append`.
 #![tactic(auto)]
 
-ghost use Rattle.std.specs.Prelude.{◌≤◌, length};
-ghost use Rattle.meaning.specs.Base.{type_capacity};
+ghost use Rattle.std.specs.Prelude.{◌*◌, ◌<◌, ◌≤◌, length};
+ghost use Rattle.meaning.specs.Base.{type_width, type_capacity};
 ghost use Rattle.meaning.specs.Types.{Entry, Defs};
 ghost use Rattle.meaning.specs.Rules.{append};
 ghost use Rattle.words.specs.Tables.{table_of};
-ghost use Rattle.grow.specs.Grow.{Ready, Left, New};
+ghost use Rattle.grow.specs.Grow.{Shows, Ready, Left, New};
 
 use refusals::{Reason, Refusal};
 
@@ -19,7 +20,16 @@ pub struct Made {
 
 // kept: types, classes and count as parameters: a struct of the two `&mut` would have to say in each contract that it still holds the same references.
 
+// The words of entry e of the first `count`.
+pub fn read(types: &[u16], count: usize, e: usize) -> words::Entry
+    requires { (e < count) × (type_width * count ≤ length types.now) }
+    ensures { Shows (table_of types.now count) e result }
+{
+    words::read_entry(types, e)
+}
+
 // One more entry, of these words, with its class, for a query node: refused there if the table is full.
+#[inline(always)]
 pub fn append(
     types: &mut [u16],
     classes: &mut [u16],

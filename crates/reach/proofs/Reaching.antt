@@ -13,15 +13,14 @@ use lib.Seq.{length-take-le, length_front, ext_get_or}
 use Rattle.meaning.specs.Base.{In, first, later, zeros}
 use Rattle.meaning.specs.Types.{Table, Defs, at}
 use Rattle.meaning.specs.Reach.{steps_of, reached}
-use Rattle.meaning.specs.Formed.{Formed}
 use Rattle.meaning.proofs.Reach as Reach
 use Rattle.words.proofs.Rows.{zeros_length}
 use Rattle.entries.specs.Says.{shown}
 use Rattle.entries.specs.declared.Ty.{Ty}
-use Rattle.reach.specs.Marks.{marks_of, blank, Seen, Listed, Room, Grew, Within}
+use Rattle.reach.specs.Marks.{marks_of, blank, Seen, Listed, Room, Grew, Within, Given}
 use Rattle.reach.proofs.Marks.{marks_length, unmarked_at, marked_at, blank_none}
 use Rattle.reach.proofs.Pushing.{listed_more, grew_by}
-use Rattle.reach.proofs.Steps.{formed_within}
+use Rattle.reach.proofs.Steps.{given_within, given_alike}
 
 -- THE START: the front of a table cleared
 module _ (ms ys : List ℕ) (count : ℕ) (room : count ≤ length ms) (cleared : ys ≡ zeros (length (take count ms))) where
@@ -45,9 +44,10 @@ seen? ms i = go (ℕ_discrete (get_or ms i 0) 0)
     go (yes p) = inr p
     go (no p) = inl p
 
-module _ (D : Defs) (T : Table) (count e : ℕ) where
+module _ (D : Defs) (T : Table) (defs : List ℕ) (count e : ℕ) where
+  -- what stands in an entry, by the definitions that are lent
   abbrev steps : ℕ → List ℕ
-  steps i = steps_of true D (at T i)
+  steps i = steps_of true defs (at T i)
 
   abbrev Goal : ℕ → Type 0
   Goal i = Reach.Marked (reached true D T e) i
@@ -61,9 +61,13 @@ module _ (D : Defs) (T : Table) (count e : ℕ) where
     pub listed : (j : ℕ) → j < left → (get_or ms (count + j) 0 < count) × Seen ms (get_or ms (count + j) 0)
     pub closed : (i : ℕ) → i < count → Seen ms i → Listed count ms left i ⊎ ((x : ℕ) → In x (steps i) → Seen ms x)
 
-  module _ (F : Formed D T) (size : length T ≡ count) (low : e < count) where
-    within : (i : ℕ) → i < count → Within count D (at T i)
-    within i l = rw size at (formed_within F i (rw size l))
+  module _ (g : Given T defs D) (size : length T ≡ count) (low : e < count) where
+    within : (i : ℕ) → i < count → Within count defs (at T i)
+    within i l = rw size at (given_within g i (rw size l))
+
+    -- by the definitions in use it is the same
+    alike : (i : ℕ) → i < count → steps i ≡ steps_of true D (at T i)
+    alike i l = given_alike g i (rw size l)
 
     steps_low : (i : ℕ) → i < count → (x : ℕ) → In x (steps i) → x < count
     steps_low i l x h = (within i l).parts x h
@@ -128,7 +132,7 @@ module _ (D : Defs) (T : Table) (count e : ℕ) where
           sound_on : (i : ℕ) → i < count → Seen ms i ⊎ (In i (steps x) × Listed count ns r i) → Goal i
           sound_on i k (inl s) = v.sound i k s
           sound_on i k (inr p) =
-              Reach.reached_closed true D T e (rw size low) x i (rw size at_low) (v.sound x at_low at_seen) p.0 (rw (Reach.reached_length true D T e (rw size low), size) k)
+              Reach.reached_closed true D T e (rw size low) x i (rw size at_low) (v.sound x at_low at_seen) (rw (alike x at_low) at p.0) (rw (Reach.reached_length true D T e (rw size low), size) k)
 
           listed_on : (j : ℕ) → j < r → Dec (j < next) → (get_or ns (count + j) 0 < count) × Seen ns (get_or ns (count + j) 0)
           listed_on j k (yes p) = rw (w.same j p) ((v.listed j (omega arith)).0, w.kept (get_or ms (count + j) 0) (v.listed j (omega arith)).0 (v.listed j (omega arith)).1)
@@ -148,7 +152,7 @@ module _ (D : Defs) (T : Table) (count e : ℕ) where
             where
               go : Listed count ms 0 i ⊎ ((x : ℕ) → In x (steps i) → Seen ms x) → Seen ms y
               go (inl h) = absurd (omega (arith, h.low))
-              go (inr h) = h y a
+              go (inr h) = h y (rw (alike i l) a)
 
       abbrev R : List Bool
       R = reached true D T e
@@ -167,44 +171,12 @@ module _ (D : Defs) (T : Table) (count e : ℕ) where
       pub visiting_end : marks_of count ms ≡ reached true D T e
       visiting_end = ext_get_or false (marks_of count ms) R (marks_length count ms ∙ sym (Reach.reached_length true D T e (rw size low) ∙ size)) (λ i l. same_at i (omega (arith, marks_length count ms)))
 
-    -- one that is to be visited
-    module _ {before ms : List ℕ} {left next : ℕ} (one : left ≡ suc next) (v : Visiting before ms left) where
-      here : Visiting before ms (suc next)
-      here = subst (Visiting before ms) one v
-
-      pub next_room : Room ms count next
-      next_room = record { most = here.room.most; long = here.room.long; few = omega (arith, here.room.few) }
-
-      pub next_place : count + next < length ms
-      next_place = omega (arith, here.room.long, here.room.few)
-
-      pub next_small : count + next ≤ 8192
-      next_small = omega (arith, here.room.most, here.room.few)
-
-      module _ {y : ℕ} (is : y ≡ get_or ms (count + next) 0) where
-        entry_low : y < count
-        entry_low = omega (arith, is, (here.listed next (omega arith)).0)
-
-        pub next_inside : y < length T
-        next_inside = rw size entry_low
-
-        -- the entry that is visited, as it was read
-        module _ (x : Ty) (read : shown x ≡ at T y) where
-          pub next_within : Within count D (shown x)
-          next_within = rw read (within y entry_low)
-
-          pub next_visited : {ns : List ℕ} {r : ℕ} → Grew count ms ns next r (steps_of true D (shown x)) → Visiting before ns r
-          next_visited w = visiting_more here is (grew_by (ap (steps_of true D) (sym read)) w)
-
-pub start_room : {D : Defs} {T : Table} {count : ℕ} (ms ys : List ℕ) → Formed D T → length T ≡ count → 2 * count ≤ length ms → ys ≡ zeros (length (take count ms)) → Room (ys ++ drop count ms) count 0
-start_room {count = count} ms ys F size l c = record { most = omega (arith, F.few, size); long = omega (arith, cleared_length ms ys count (omega arith) c); few = omega (arith, blank_none count (ys ++ drop count ms)) }
+-- THE DEFINITIONS IN USE: whichever they are
+pub record Anyhow (T : Table) (defs : List ℕ) (count e : ℕ) (before ms : List ℕ) (left : ℕ) : Type 0 where
+  pub is : (D : Defs) → Given T defs D → Visiting D T defs count e before ms left
 
 pub left_over : ℕ → List ℕ → ℕ → ℕ
 left_over count ms left = 2 * blank count ms + left
-
--- where nothing is left
-pub none_left : {D : Defs} {T : Table} {count e left : ℕ} {before ms : List ℕ} → left ≤ 0 → Visiting D T count e before ms left → Visiting D T count e before ms 0
-none_left {D} {T} {count} {e} {left} {before} {ms} z v = subst (Visiting D T count e before ms) {x = left} {y = 0} (omega (arith, z)) v
 
 pub one_left : {left : ℕ} → 0 < left → left ≡ suc (left - 1)
 one_left h = omega arith
@@ -213,3 +185,43 @@ one_left h = omega arith
 pub over_less : {count next r left : ℕ} {ms ns xs : List ℕ} → left ≡ suc next → Grew count ms ns next r xs → left_over count ns r < left_over count ms left
 unfolding left_over
 over_less e w = omega (arith, w.room, w.more)
+
+pub start_room : {D : Defs} {T : Table} {defs : List ℕ} {count : ℕ} (ms ys : List ℕ) → Given T defs D → length T ≡ count → 2 * count ≤ length ms → ys ≡ zeros (length (take count ms)) → Room (ys ++ drop count ms) count 0
+start_room {count = count} ms ys g size l c = record { most = omega (arith, g.formed.few, size); long = omega (arith, cleared_length ms ys count (omega arith) c); few = omega (arith, blank_none count (ys ++ drop count ms)) }
+
+module _ {T : Table} {defs : List ℕ} {count e : ℕ} (size : length T ≡ count) (low : e < count) where
+  pub anyhow_start : {before ms ns : List ℕ} {left : ℕ} → length ms ≡ length before → Room ms count 0 → ((i : ℕ) → i < count → get_or ms i 0 ≡ 0) → Grew count ms ns 0 left (e ∷ []) → Anyhow T defs count e before ns left
+  anyhow_start l r none w = record { is = λ D g. visiting_start D T defs count e g size low l r none w }
+
+  -- one that is to be visited
+  module _ {before ms : List ℕ} {left next : ℕ} (one : left ≡ suc next) (a : Anyhow T defs count e before ms left) where
+    here : {D : Defs} → Given T defs D → Visiting D T defs count e before ms (suc next)
+    here {D} g = subst (Visiting D T defs count e before ms) one (a.is D g)
+
+    module _ {D : Defs} (g : Given T defs D) where
+      pub anyhow_room : Room ms count next
+      anyhow_room = let v = here g in record { most = v.room.most; long = v.room.long; few = omega (arith, v.room.few) }
+
+      pub anyhow_place : count + next < length ms
+      anyhow_place = let v = here g in omega (arith, v.room.long, v.room.few)
+
+      pub anyhow_small : count + next ≤ 8192
+      anyhow_small = let v = here g in omega (arith, v.room.most, v.room.few)
+
+      module _ {y : ℕ} (is : y ≡ get_or ms (count + next) 0) where
+        entry_low : y < count
+        entry_low = let v = here g in omega (arith, is, (v.listed next (omega arith)).0)
+
+        pub anyhow_inside : y < length T
+        anyhow_inside = rw size entry_low
+
+        -- the entry that is visited, as it was read
+        pub anyhow_within : (x : Ty) → shown x ≡ at T y → Within count defs (shown x)
+        anyhow_within x read = rw read (rw size at (given_within g y anyhow_inside))
+
+    pub anyhow_visited : {y : ℕ} → y ≡ get_or ms (count + next) 0 → (x : Ty) → shown x ≡ at T y → {ns : List ℕ} {r : ℕ} → Grew count ms ns next r (steps_of true defs (shown x)) → Anyhow T defs count e before ns r
+    anyhow_visited is x read w = record { is = λ D g. visiting_more D T defs count e g size low (here g) is (grew_by (ap (steps_of true defs) (sym read)) w) }
+
+  -- where nothing is left
+  pub anyhow_end : {before ms : List ℕ} {left : ℕ} → left ≤ 0 → Anyhow T defs count e before ms left → (D : Defs) → Given T defs D → marks_of count ms ≡ reached true D T e
+  anyhow_end {before} {ms} {left} z a D g = visiting_end D T defs count e g size low (subst (Visiting D T defs count e before ms) {x = left} {y = 0} (omega (arith, z)) (a.is D g))

@@ -1,10 +1,11 @@
 -- Marks of entries in a lent table, a word for each entry, as `meaning` has them; what is given to mark them; what marking leaves.
 -- Assumes nothing.
-use Rattle.std.specs.Prelude.{◌≡◌, Bool, true, false, not, cond, List, [], ◌∷◌, ◌⊎◌, ℕ, zero, suc, ◌+◌, ◌*◌, ◌≤◌, ◌<◌, eqb, length, get_or}
+use Rattle.std.specs.Prelude.{◌≡◌, Bool, true, false, not, cond, List, [], ◌∷◌, ◌⊎◌, ℕ, zero, suc, ◌+◌, ◌*◌, ◌≤◌, ◌<◌, eqb, length, get_or, take}
 use Rattle.std.proofs.Math.Option.{some}
 use Rattle.meaning.specs.Base.{In}
-use Rattle.meaning.specs.Types.{Entry, Defs, name_of}
+use Rattle.meaning.specs.Types.{Entry, Table, Defs, name_of}
 use Rattle.meaning.specs.Reach.{steps_of}
+use Rattle.meaning.specs.Formed.{Formed}
 
 -- the marks of the first n entries: a word that is not 0 is a mark
 unfoldable pub marks_of : ℕ → List ℕ → List Bool
@@ -16,6 +17,12 @@ marks_of (suc n) (w ∷ ws) = not (eqb w 0) ∷ marks_of n ws
 pub record Within (n : ℕ) (D : Defs) (x : Entry) : Type 0 where
   pub parts : (i : ℕ) → In i (steps_of true D x) → i < n
   pub named : (d : ℕ) → name_of x ≡ some d → d < length D
+
+-- a type table, and a lent table of definitions that begins with the definitions D, as reading leaves them and typing keeps them
+pub record Given (T : Table) (defs : List ℕ) (D : Defs) : Type 0 where
+  pub formed : Formed D T
+  pub listed : length D ≤ length defs
+  pub taken : D ≡ take (length D) defs
 
 -- how many of the first n entries have no mark
 unfoldable pub blank : ℕ → List ℕ → ℕ

@@ -2,11 +2,10 @@
 #![tactic(auto)]
 
 ghost use Rattle.std.specs.Prelude.{◌≡◌, true, [], ◌∷◌, ◌*◌, ◌≤◌, ◌<◌, length};
-ghost use Rattle.meaning.specs.Types.{head_of};
+ghost use Rattle.meaning.specs.Types.{Defs, head_of};
 ghost use Rattle.meaning.specs.Reach.{steps_of, reached, atom_passes};
-ghost use Rattle.meaning.specs.Formed.{Formed};
 ghost use Rattle.entries.specs.Says.{shown};
-ghost use Rattle.reach.specs.Marks.{marks_of, Within, Room, Grew};
+ghost use Rattle.reach.specs.Marks.{marks_of, Within, Given, Room, Grew};
 ghost use Rattle.reach.specs.Atoms.{picked, Next};
 
 use entries::Ty;
@@ -49,12 +48,13 @@ fn visit(x: Ty, defs: &[u16], marks: &mut [u16], count: usize, left: usize) -> u
     }
 }
 
-// Marks what entry e reaches, itself too, and nothing else among the entries. Each entry that is marked is visited once.
+// Marks what entry e reaches, itself too, and nothing else among the entries. Each entry that is marked is visited once. The definitions in use are the
+// first of those lent.
 pub fn reach(types: &Types, defs: &[u16], e: usize, marks: &mut [u16])
-    requires formed { Formed defs.now types.now }
+    requires given { ((D : Defs) × Given types.now defs.now D) }
     requires low { e < length types.now }
     requires long { 2 * length types.now ≤ length marks.old }
-    ensures { marks_of (length types.now) marks.new ≡ reached true defs.now types.now e }
+    ensures { (D : Defs) → Given types.now defs.now D → marks_of (length types.now) marks.new ≡ reached true D types.now e }
 {
     let count = types.len();
     words::clear(&mut marks[..count]);

@@ -105,6 +105,7 @@ impl Form {
 }
 
 // The form of a kind.
+#[inline(always)]
 pub fn form_of(kind: u16) -> Option<Form>
     ensures { Formed kind result }
 {
@@ -251,6 +252,7 @@ pub fn value_at(s: &[u8], at: usize) -> Result<Item, Reason>
 }
 
 // Whether a field fits its sort, with so many type entries, and with these query nodes.
+#[inline(always)]
 fn field_fits(sort: Sort, w: u16, types: usize, code: &Nodes) -> bool
     ensures { result ≡ fits types code.now (sort_of sort) w }
 {
@@ -265,7 +267,8 @@ fn field_fits(sort: Sort, w: u16, types: usize, code: &Nodes) -> bool
     }
 }
 
-// Whether all fields of a record fit.
+// Whether all fields of a record fit. It is compiled into each caller, so that a record of a values file is judged by code of its own.
+#[inline(always)]
 pub fn item_fits(i: Item, types: usize, code: &Nodes) -> bool
     ensures { result ≡ all_fit types code.now (sorts_of i.form) (fields_of i) }
 {

@@ -6,8 +6,6 @@ use Rattle.std.proofs.lemmas.Bool.{cases_lt}
 use Rattle.std.proofs.Common.{sym, append_assoc}
 use Rattle.std.specs.Fmt as Fmt
 use Rattle.std.proofs.lemmas.Fmt.{AppendsLastDigit, decimal_from_appends, length-decimal-le}
-use Rattle.refusals.specs.declared.Reason.{Reason}
-use Rattle.refusals.specs.Says.{number_of}
 use Rattle.report.specs.Text.{digit_ascii, spelled, decimal, entry_line, result, result_line, stretch_line, refused, refused_line}
 use Rattle.report.proofs.Lines.{spelled_one, spelled_more}
 
@@ -66,29 +64,38 @@ pub refused_printed : (number place : ℕ) → number < 2 ^ 64 → place < 2 ^ 6
 unfolding refused_line
 refused_printed number place h k = rw (decimal_printed number h, decimal_printed place k) (simp append_assoc)
 
--- a reason's number is small
-pub number_small : (r : Reason) → number_of r < 2 ^ 64
-number_small Reason.Cut = omega arith
-number_small Reason.UnknownKind = omega arith
-number_small Reason.WrongLength = omega arith
-number_small Reason.OutOfOrder = omega arith
-number_small Reason.TooMany = omega arith
-number_small Reason.Unfit = omega arith
-number_small Reason.DeclaredTwice = omega arith
-number_small Reason.NoQuery = omega arith
-number_small Reason.NoDefinition = omega arith
-number_small Reason.Circle = omega arith
-number_small Reason.NotTrees = omega arith
-number_small Reason.NotUsedOnce = omega arith
-number_small Reason.NotInScope = omega arith
-number_small Reason.InScope = omega arith
-number_small Reason.OfForest = omega arith
-number_small Reason.TypesFull = omega arith
-number_small Reason.AnswerShort = omega arith
-number_small Reason.WrongValues = omega arith
-number_small Reason.NotOneTree = omega arith
-number_small Reason.ValuesFull = omega arith
-number_small Reason.WorkFull = omega arith
-number_small Reason.NoSuchText = omega arith
-number_small Reason.TooDeep = omega arith
-number_small Reason.RoomShort = omega arith
+-- THE SAME PUT ON A PAGE, a number at a time with what stands behind it
+put_more : {next after : List ℕ} (before a rest : List ℕ) → next ≡ before ++ a → after ≡ next ++ rest → after ≡ before ++ (a ++ rest)
+put_more before a rest p q = q ∙ ap (λ (s : List ℕ). s ++ rest) p ∙ append_assoc before a rest
+
+four : (a b c d : List ℕ) → (a ++ (32 ∷ [])) ++ ((b ++ (32 ∷ [])) ++ ((c ++ (32 ∷ [])) ++ (d ++ (10 ∷ [])))) ≡ a ++ (32 ∷ (b ++ (32 ∷ (c ++ (32 ∷ (d ++ (10 ∷ [])))))))
+four a b c d = simp append_assoc
+
+two : (a b ws : List ℕ) → (a ++ ws) ++ (b ++ (10 ∷ [])) ≡ ((a ++ ws) ++ b) ++ (10 ∷ [])
+two a b ws = sym (append_assoc (a ++ ws) b (10 ∷ []))
+
+spaced : (a b : List ℕ) → ((a ++ (32 ∷ [])) ++ b) ++ (10 ∷ []) ≡ (a ++ (32 ∷ b)) ++ (10 ∷ [])
+spaced a b = ap (λ (s : List ℕ). s ++ (10 ∷ [])) (append_assoc a (32 ∷ []) b)
+
+pub entry_put : (page : List ℕ) (e kind a b : ℕ) {p q r s : List ℕ} → e < 2 ^ 64 → kind < 2 ^ 16 → a < 2 ^ 16 → b < 2 ^ 16
+    → p ≡ page ++ (Fmt.decimal e ++ (32 ∷ [])) → q ≡ p ++ (Fmt.decimal kind ++ (32 ∷ [])) → r ≡ q ++ (Fmt.decimal a ++ (32 ∷ [])) → s ≡ r ++ (Fmt.decimal b ++ (10 ∷ [])) → s ≡ page ++ entry_line e kind a b
+entry_put page e kind a b {p} {q} {r} h i j k t u v w =
+    put_more page (Fmt.decimal e ++ (32 ∷ [])) _ t (put_more p (Fmt.decimal kind ++ (32 ∷ [])) _ u (put_more q (Fmt.decimal a ++ (32 ∷ [])) _ v w))
+    ∙ ap (λ (s : List ℕ). page ++ s) (four (Fmt.decimal e) (Fmt.decimal kind) (Fmt.decimal a) (Fmt.decimal b) ∙ entry_printed e kind a b h i j k)
+
+-- on a page that is new
+module _ {none word : List ℕ} (new : none ≡ []) where
+  pub result_put : (n : ℕ) {line : List ℕ} → n < 2 ^ 64 → word ≡ none ++ result → line ≡ word ++ (Fmt.decimal n ++ (10 ∷ [])) → line ≡ result_line n
+  result_put n h p q = q ∙ ap (λ (s : List ℕ). s ++ (Fmt.decimal n ++ (10 ∷ []))) (p ∙ ap (λ (s : List ℕ). s ++ result) new) ∙ result_printed n h
+
+  pub stretch_put : (first n : ℕ) {at line : List ℕ} → first < 2 ^ 64 → n < 2 ^ 64 → word ≡ none ++ result → at ≡ word ++ (Fmt.decimal first ++ (32 ∷ [])) → line ≡ at ++ (Fmt.decimal n ++ (10 ∷ [])) → line ≡ stretch_line first n
+  stretch_put first n h k p q r =
+      put_more word (Fmt.decimal first ++ (32 ∷ [])) (Fmt.decimal n ++ (10 ∷ [])) q r
+      ∙ (λ i. (p ∙ ap (λ (s : List ℕ). s ++ result) new) i ++ (two (Fmt.decimal first) (Fmt.decimal n) (32 ∷ []) ∙ spaced (Fmt.decimal first) (Fmt.decimal n)) i)
+      ∙ stretch_printed first n h k
+
+  pub refused_put : (number place : ℕ) {at line : List ℕ} → number < 2 ^ 64 → place < 2 ^ 64 → word ≡ none ++ refused → at ≡ word ++ (Fmt.decimal number ++ (32 ∷ 97 ∷ 116 ∷ 32 ∷ [])) → line ≡ at ++ (Fmt.decimal place ++ (10 ∷ [])) → line ≡ refused_line number place
+  refused_put number place h k p q r =
+      put_more word (Fmt.decimal number ++ (32 ∷ 97 ∷ 116 ∷ 32 ∷ [])) (Fmt.decimal place ++ (10 ∷ [])) q r
+      ∙ (λ i. (p ∙ ap (λ (s : List ℕ). s ++ refused) new) i ++ two (Fmt.decimal number) (Fmt.decimal place) (32 ∷ 97 ∷ 116 ∷ 32 ∷ []) i)
+      ∙ refused_printed number place h k

@@ -1,4 +1,5 @@
-// The variables in scope: what each of the 64 that there can be is, if it is in scope. A scope is a value: `bind`, `unbind` and `lookup` hand it back.
+// The variables in scope: what each of the 64 that there can be is, if it is in scope. A scope is a value: `bind`, `unbind` and `lookup` hand it back. `get`, `set`
+// and `clear` do the same to a scope that is lent: it has 384 bytes, and handing it back copies them.
 #![tactic(auto)]
 
 ghost use Rattle.std.specs.Prelude.{◌≡◌, ◌<◌, length, get_or, Some, None};
@@ -43,13 +44,38 @@ pub struct Scope {
 }
 
 impl Scope {
+    // What the variable is, if it is in scope.
+    pub fn get(&self, v: usize) -> Option<Var>
+        requires { v < 64 }
+        ensures { result ≡ get_or self.now.slots v None }
+    {
+        let slots = &self.slots;
+        slots[v]
+    }
+
+    // The variable comes into scope.
+    pub fn set(&mut self, v: usize, x: Var)
+        requires { v < 64 }
+        ensures { self.new ≡ bound self.old v (Some x) }
+    {
+        self.slots[v] = Some(x);
+    }
+
+    // The variable goes out of scope.
+    pub fn clear(&mut self, v: usize)
+        requires { v < 64 }
+        ensures { self.new ≡ bound self.old v None }
+    {
+        self.slots[v] = None;
+    }
+
     // The scope again, and what the variable is, if it is in scope.
     pub fn lookup(self, v: usize) -> (Scope, Option<Var>)
         requires { v < 64 }
         ensures same { result.0 ≡ self }
         ensures found { result.1 ≡ get_or self.slots v None }
     {
-        (self, self.slots[v])
+        (self, self.get(v))
     }
 
     // The scope with the variable.
@@ -57,7 +83,7 @@ impl Scope {
         requires { v < 64 }
         ensures { result ≡ bound self v (Some x) }
     {
-        self.slots[v] = Some(x);
+        self.set(v, x);
         self
     }
 
@@ -66,7 +92,7 @@ impl Scope {
         requires { v < 64 }
         ensures { result ≡ bound self v None }
     {
-        self.slots[v] = None;
+        self.clear(v);
         self
     }
 }

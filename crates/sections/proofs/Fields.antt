@@ -82,7 +82,7 @@ module _ (k a b c : ℕ) where
           put = extends_then {b = at + 2} (extends_word size one (omega (arith, es)) refl) (extends_word k two (omega (arith, es)) (omega arith));
         }
 
-    module _ {t u : List ℕ} {i n : ℕ} (f : Fielding size at t u i) (less : i < n) (en : n ≡ (size - 4) / 2) where
+    module _ {t u : List ℕ} {i n : ℕ} (f : Fielding size at t u i) (less : i < n) (en : n ≤ (size - 4) / 2) where
       pub fields_room : (i < 3) × (at + 4 + 2 * i + 2 ≤ length u)
       fields_room = (omega (arith, f.sized, few k), omega (arith, f.sized, f.fits, f.long))
 
@@ -98,8 +98,8 @@ module _ (k a b c : ℕ) where
             put = rw words (extends_then {b = at + 4 + 2 * i} f.put (extends_word (get_or fields i 0) e fields_room.1 (omega arith)));
           }
 
-    pub fields_all : {t u : List ℕ} {i n : ℕ} → Fielding size at t u i → i ≤ n → n ≤ i → n ≡ (size - 4) / 2 → Extends at (at + size) (node_record (node k a b c)) t u
-    fields_all {t} {u} {i} f l m en =
+    pub fields_all : {t u : List ℕ} {i n : ℕ} → Fielding size at t u i → n ≤ i → i ≤ (size - 4) / 2 → (size - 4) / 2 ≤ n → Extends at (at + size) (node_record (node k a b c)) t u
+    fields_all {t} {u} {i} f m l en =
         let count : i ≡ field_count (find k forms) = omega (arith, f.sized) in
         let low : i ≤ 3 = omega (arith, count, few k) in
         let sized : size ≡ 4 + 2 * length (take i fields) = omega (arith, f.sized, count, taken i a b c low) in

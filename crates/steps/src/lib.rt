@@ -23,8 +23,17 @@ pub fn expect(s: &[u8], at: usize, wanted: Token) -> Result<usize, Refusal>
     requires not_end { 0 < kind_of wanted }
     ensures { Goes s.now at result (λ n. expect s.now (kind_of wanted) (here at n)) }
 {
+    expect_kind(s, at, tokens::kind_of(wanted))
+}
+
+// The same by a token's kind, whichever it is but the end's.
+pub fn expect_kind(s: &[u8], at: usize, kind: u16) -> Result<usize, Refusal>
+    requires inside { at ≤ length s.now }
+    requires not_end { 0 < kind }
+    ensures { Goes s.now at result (λ n. expect s.now kind (here at n)) }
+{
     let t = tokens::token_at(s, at);
-    let is_wanted = tokens::kind_of(t.token) == tokens::kind_of(wanted);
+    let is_wanted = tokens::kind_of(t.token) == kind;
     if !is_wanted {
         return Err(Refusal {
             reason: Reason::NoSuchText,

@@ -151,12 +151,12 @@ fn named(
 {
     let w = usize::from(v);
     if k != 0 {
-        *scope = scope.unbind(w);
+        scope.clear(w);
         return Ok(Next::Up { made: part, top: i });
     }
     let source = joins::free(n, v, Ok(part), scope)?;
     let x = Var::Forest(source.at as u16);
-    *scope = scope.bind(w, x);
+    scope.set(w, x);
     Ok(go_on(stack, i, 1, q, source.count))
 }
 
@@ -184,7 +184,7 @@ fn primed(
     let class = classes[source.at];
     let made = walks::prime(types, classes, defs, source.count, n, source.at, marks)?;
     let x = Var::Tree(made.at as u16);
-    *scope = scope.bind(usize::from(v), x);
+    scope.set(usize::from(v), x);
     Ok(go_on(stack, i, class + 1, q, made.count))
 }
 
@@ -211,7 +211,7 @@ fn each(
     ensures { (C : List Node) (p : Term) → query_at C n ≡ Queries.for n v p (query_at C q) → q < n → Turns defs.now C types.old types.new classes.old classes.new part.count scope.old n k part.at stack.old stack.new i result scope.new }
 {
     if k != 0 {
-        *scope = scope.unbind(usize::from(v));
+        scope.clear(usize::from(v));
         let made = joins::repeat(types, classes, part.count, n, k - 1, part.at)?;
         return Ok(Next::Up { made, top: i });
     }

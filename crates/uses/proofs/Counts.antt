@@ -55,7 +55,10 @@ counted_one t x l = record { is = λ q. go q (ℕ_discrete q x) }
 pub counted_both : {t u w ps qs : List ℕ} → Counted t ps u → Counted u qs w → Counted t (ps ++ qs) w
 counted_both {t} {u} {w} {ps} {qs} h k = record { is = λ q. omega (arith, h.is q, k.is q, count_append q ps qs) }
 
--- WHAT A NODE NAMES, none or two nodes: room for the first, and for the second when the first has been counted
+-- WHAT A NODE NAMES, none, one or two nodes: room for the first, and for the second when the first has been counted
+pub room_one : {t qs : List ℕ} {q : ℕ} → (q ∷ []) ≡ qs → Room t qs → Room t (q ∷ [])
+room_one e h = rw (← e) at h
+
 pub room_first : {t qs : List ℕ} {p q : ℕ} → (p ∷ q ∷ []) ≡ qs → Room t qs → Room t (p ∷ [])
 room_first {t} {qs} {p} {q} e h =
     let r : Room t (p ∷ q ∷ []) = rw (← e) at h in
@@ -71,6 +74,9 @@ room_second {t} {u} {qs} {p} {q} e h l c =
 
 pub named_none : {t qs : List ℕ} → [] ≡ qs → Counted t qs t
 named_none {t} e = rw (← e) (counted_none t)
+
+pub named_one : {t u qs : List ℕ} {q : ℕ} → (q ∷ []) ≡ qs → Counted t (q ∷ []) u → Counted t qs u
+named_one e h = rw (← e) h
 
 pub named_two : {t u w qs : List ℕ} {p q : ℕ} → (p ∷ q ∷ []) ≡ qs → Counted t (p ∷ []) u → Counted u (q ∷ []) w → Counted t qs w
 named_two e h k = rw (← e) (counted_both h k)

@@ -1,9 +1,16 @@
 -- Tables that count the uses of nodes: what is asked of one, and what it holds when nodes have been counted.
 -- Assumes nothing.
-use Rattle.std.specs.Prelude.{◌≡◌, List, ℕ, ◌+◌, ◌≤◌, ◌<◌, length, get_or}
+use Rattle.std.specs.Prelude.{◌≡◌, List, [], ◌∷◌, ℕ, ◌+◌, ◌≤◌, ◌<◌, length, get_or}
 use Rattle.meaning.specs.Base.{At, In, count}
 use Rattle.meaning.specs.Records.{Node}
 use Rattle.meaning.specs.Formed.{NodeLow}
+use Rattle.uses.specs.declared.Uses.{Uses}
+
+-- the nodes that a node names
+abbrev pub uses_in : Uses → List ℕ
+uses_in Uses.None = []
+uses_in (Uses.One q) = q ∷ []
+uses_in (Uses.Two p q) = p ∷ q ∷ []
 
 -- these nodes have places in the table, and their counts fit a word
 pub record Room (counts qs : List ℕ) : Type 0 where

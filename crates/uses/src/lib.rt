@@ -7,7 +7,7 @@ ghost use Rattle.meaning.specs.Base.{lowest, zeros};
 ghost use Rattle.meaning.specs.Records.{node};
 ghost use Rattle.meaning.specs.Checks.{has_root, uses_of, uses, misused};
 ghost use Rattle.words.specs.Says.{found};
-ghost use Rattle.uses.specs.Counts.{Room, Counted, Lowers};
+ghost use Rattle.uses.specs.Counts.{uses_in, Room, Counted, Lowers};
 
 use tables::Nodes;
 use words::Node;
@@ -32,24 +32,41 @@ fn count(counts: &mut [u16], q: u16)
     counts[usize::from(q)] += 1;
 }
 
-// One use more of each node that the fields of a node name, by its kind.
+// The nodes that a node names: none, one or two.
+#[derive(Clone, Copy)]
+enum Uses {
+    None,
+    One(u16),
+    Two(u16, u16),
+}
+
+// The nodes that the fields of a node name, by its kind.
 #[tactic(auto, unfolding(meaning::specs::Base::find, meaning::specs::Records::forms, meaning::specs::Checks::named))]
+fn uses_of(x: Node) -> Uses
+    ensures { uses_in result ≡ uses_of (node x.kind x.a x.b x.c) }
+{
+    match x.kind {
+        34 => Uses::One(x.b),
+        35 | 41 | 52 => Uses::Two(x.a, x.b),
+        39 => Uses::Two(x.b, x.c),
+        40 => Uses::Two(x.b, x.c),
+        53 => Uses::One(x.a),
+        _ => Uses::None,
+    }
+}
+
+// One use more of each node that a node names.
 fn count_node(x: Node, counts: &mut [u16])
     requires { Room counts.old (uses_of (node x.kind x.a x.b x.c)) }
     ensures { Counted counts.old (uses_of (node x.kind x.a x.b x.c)) counts.new }
 {
-    match x.kind {
-        34 => count(counts, x.b),
-        35 | 41 | 52 => {
-            count(counts, x.a);
-            count(counts, x.b);
+    match uses_of(x) {
+        Uses::None => {}
+        Uses::One(q) => count(counts, q),
+        Uses::Two(p, q) => {
+            count(counts, p);
+            count(counts, q);
         }
-        39 | 40 => {
-            count(counts, x.b);
-            count(counts, x.c);
-        }
-        53 => count(counts, x.a),
-        _ => {}
     }
 }
 

@@ -150,7 +150,8 @@ fn over(types: &Types, frame: Frame, at: usize) -> Then
     }
 }
 
-// What a rule does with entry e of the first `count`. The stack is scratch.
+// What a rule does with entry e of the first `count`. The stack is scratch. It is compiled into each rule, so that the loop tests no mode.
+#[inline(always)]
 fn walk(
     mode: Mode,
     types: &mut [u16],

@@ -16,4 +16,5 @@ put_one-requires c =
     omega (arith, file_length c.requires.ready, def_length c.args.defs.now, c.requires.room, c.put_types-from.ensures.next, c.put_defs-last.ensures.next, c.put_types-from.auto.answer, c.put_defs-last.auto.answer)
 
 pub returns : goal.returns
-returns c = file_put c.requires.ready c.put_types-from.ensures c.put_defs-last.ensures c.put_one.ensures
+returns c =
+    file_put c.requires.ready c.put_types-from.ensures c.put_defs-last.ensures (omega (arith, c.put_defs-last.ensures.next)) c.put_one.ensures

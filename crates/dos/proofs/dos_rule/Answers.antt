@@ -6,10 +6,10 @@ use Rattle.dos.proofs.Rule.{dos_none, dos_some}
 use Rattle.dos.proofs.dos_rule.Goals as goal
 
 pub new-known-requires : goal.new-known-requires
-new-known-requires c = omega (arith, c.requires.ready.lent.fits)
+new-known-requires c = omega (arith, c.requires.ready.1.lent.fits)
 
-pub reach-requires-clause-formed : goal.reach-requires-clause-formed
-reach-requires-clause-formed c = rw c.new-known.ensures c.requires.ready.formed
+pub reach-requires-clause-given : goal.reach-requires-clause-given
+reach-requires-clause-given c = (c.requires.ready.0, rw c.new-known.ensures c.requires.ready.2)
 
 pub reach-requires-clause-low : goal.reach-requires-clause-low
 reach-requires-clause-low c = rw (c.new-known.ensures, table_length) c.requires.low
@@ -20,6 +20,9 @@ reach-requires-clause-long c = rw (c.new-known.ensures, table_length) c.requires
 pub next-first-requires : goal.next-first-requires
 next-first-requires c = rw (c.new-known.ensures, table_length) (omega (arith, c.requires.marked, c.reach.auto.marks))
 
+pub join-requires-clause-ready : goal.join-requires-clause-ready
+join-requires-clause-ready c = (c.requires.ready.0, c.requires.ready.1)
+
 pub join-requires-clause-low : goal.join-requires-clause-low
 join-requires-clause-low c = rw (c.new-known.ensures, table_length) at (next_low c.in-Some.ensures)
 
@@ -27,8 +30,9 @@ pub join-requires-clause-marked : goal.join-requires-clause-marked
 join-requires-clause-marked c = omega (arith, c.requires.marked, c.reach.auto.marks)
 
 pub returns-in_default : goal.returns-in_default
-returns-in_default c = dos_none _ _ _ _ c.requires.ready c.new-known.ensures c.reach.ensures c.in_default.ensures
+returns-in_default c =
+    λ D R given. dos_none _ _ _ _ R c.new-known.ensures (c.reach.ensures D (rw c.new-known.ensures given)) c.in_default.ensures
 
 pub returns : goal.returns
 returns c =
-    dos_some _ _ _ _ c.requires.ready c.new-known.ensures c.reach.ensures c.in-Some.ensures (c.join.ensures _ c.requires.ready)
+    λ D R given. dos_some _ _ _ _ R c.new-known.ensures (c.reach.ensures D (rw c.new-known.ensures given)) c.in-Some.ensures (c.join.ensures D R)

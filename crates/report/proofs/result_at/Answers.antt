@@ -1,11 +1,14 @@
--- `report::result_at` meets its contract: what the library prints is the line.
+-- `report::result_at` meets its contract: what is put on the page is the line.
 -- Assumes nothing.
-use Rattle.std.proofs.Common.{subst, arith}
+use Rattle.std.proofs.Common.{subst, ◌∙◌, arith}
 use Rattle.std.specs.Io.KnownBytes.{Appends}
 use Rattle.std.proofs.lemmas.Result.{on_ok_weaker}
-use Rattle.report.proofs.Digits.{stretch_printed}
+use Rattle.report.proofs.Digits.{stretch_put}
 use Rattle.report.proofs.result_at.Goals as goal
 
 pub returns : goal.returns
 returns g c =
-    on_ok_weaker c.line.result (subst (Appends (g.W.Write.contents c.args.out.now) (g.W.Write.contents c.line.new.out)) (stretch_printed c.args.first c.args.length (omega arith) (omega arith))) c.line.ensures
+    let line = stretch_put c.new-line.ensures c.args.first c.args.length (omega arith) (omega arith) c.push_str.ensures.bytes c.put.ensures.bytes c.put-2.ensures.bytes in
+    on_ok_weaker c.write_all.result
+    (subst (Appends (g.W.Write.contents c.args.out.now) (g.W.Write.contents c.write_all.new.self)) (c.as_bytes.ensures.value ∙ c.as_str.ensures.value ∙ line))
+    c.write_all.ensures.bytes

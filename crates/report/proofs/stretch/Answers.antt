@@ -15,9 +15,9 @@ loop-e-init g c =
 pub loop-e-preserved : goal.loop-e-preserved
 loop-e-preserved g c =
     subst
-    (Printed (g.W.Write.contents c.args.out.now) (g.W.Write.contents c.turn.new.out) c.put_entry.new.page.items)
+    (Printed (g.W.Write.contents c.args.out.now) (g.W.Write.contents c.turn.new.out) c.put_entry.new.page.bytes)
     (lines_more c.args.table.now c.min-from.result c.loop-e.e (omega arith))
-    (line_printed _ _ _ c.loop-e.page.items c.turn.new.page.items c.put_entry.new.page.items _ _ c.loop-e.invariant c.in_ok-turn.ensures.printed c.in_ok-put_entry.ensures)
+    (line_printed _ _ _ c.loop-e.page.bytes c.turn.new.page.bytes c.put_entry.new.page.bytes _ _ c.loop-e.invariant c.in_ok-turn.ensures.printed c.put_entry.ensures)
 
 pub returns : goal.returns
 returns g c =
@@ -26,5 +26,5 @@ returns g c =
     let old = g.W.Write.contents c.args.out.now in
     let new = g.W.Write.contents c.write_all.new.self in
     on_ok_weaker c.write_all.result
-    (λ p. subst (Appends old new) lines (written_out old (g.W.Write.contents c.loop-e.out) new c.loop-e.page.items _ c.loop-e.invariant (subst (Appends (g.W.Write.contents c.loop-e.out) new) c.as_slice.ensures.value p)))
+    (λ p. subst (Appends old new) lines (written_out old (g.W.Write.contents c.loop-e.out) new c.loop-e.page.bytes _ c.loop-e.invariant (subst (Appends (g.W.Write.contents c.loop-e.out) new) (c.as_bytes.ensures.value ∙ c.as_str.ensures.value) p)))
     c.write_all.ensures.bytes

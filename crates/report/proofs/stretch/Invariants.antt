@@ -5,4 +5,4 @@ use Rattle.report.specs.Pages.{Printed}
 use Rattle.report.proofs.stretch.Given as goal
 
 abbrev pub invariant-loop-e : goal.invariant-loop-e
-invariant-loop-e g l = Printed (g.W.Write.contents l.initial.out) (g.W.Write.contents l.out) l.page.items (entry_lines l.table l.from (l.e - l.from))
+invariant-loop-e g l = Printed (g.W.Write.contents l.initial.out) (g.W.Write.contents l.out) l.page.bytes (entry_lines l.table l.from (l.e - l.from))

@@ -8,11 +8,11 @@ use Rattle.typing.proofs.each.Goals as goal
 pub returns-in_err-made : goal.returns-in_err-made
 returns-in_err-made c =
     let x = err_from_is_err_and c.from_residual.result c.from_residual.ensures.1 in
-    λ C p a l. rw (x.1, x.2) (turn_done _ _ _ _ _ _ _ _ _ a (Std.Err _) (for_done _ _ _ _ _ _ _ _ c.requires.begins c.requires.low _ _ p _ _ (one_less c.if-k-ne0.true) c.from.ensures c.unbind.ensures c.in_err-made.ensures))
+    λ C p a l. rw (x.1, x.2) (turn_done _ _ _ _ _ _ _ _ _ a (Std.Err _) (for_done _ _ _ _ _ _ _ _ c.requires.begins c.requires.low _ _ p _ _ (one_less c.if-k-ne0.true) c.from.ensures c.clear.ensures c.in_err-made.ensures))
 
 pub returns-then-k-ne0 : goal.returns-then-k-ne0
 returns-then-k-ne0 c =
-    λ C p a l. turn_done _ _ _ _ _ _ _ _ _ a (Std.Ok _) (for_done _ _ _ _ _ _ _ _ c.requires.begins c.requires.low _ _ p _ _ (one_less c.if-k-ne0.true) c.from.ensures c.unbind.ensures c.in_ok-made.ensures)
+    λ C p a l. turn_done _ _ _ _ _ _ _ _ _ a (Std.Ok _) (for_done _ _ _ _ _ _ _ _ c.requires.begins c.requires.low _ _ p _ _ (one_less c.if-k-ne0.true) c.from.ensures c.clear.ensures c.in_ok-made.ensures)
 
 pub returns-in_err-source : goal.returns-in_err-source
 returns-in_err-source c =

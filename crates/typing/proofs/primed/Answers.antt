@@ -19,4 +19,4 @@ overflow_add-class c =
 
 pub returns : goal.returns
 returns c =
-    λ C p a l. turn_second _ _ _ _ _ _ _ _ _ a refl l (for_second _ _ _ _ _ _ _ _ c.requires.begins c.requires.low _ _ p _ c.requires.free c.in_ok-made.ensures _ refl (c.requires.begins.ready.filled.right _ (rw table_length c.requires.low)) c.from.ensures c.bind.ensures) c.go_on.ensures.comes (omega arith) c.go_on.ensures.keeps
+    λ C p a l. turn_second _ _ _ _ _ _ _ _ _ a refl l (for_second _ _ _ _ _ _ _ _ c.requires.begins c.requires.low _ _ p _ c.requires.free c.in_ok-made.ensures _ refl (c.requires.begins.ready.filled.right _ (rw table_length c.requires.low)) c.from.ensures c.set.ensures) c.go_on.ensures.comes (omega arith) c.go_on.ensures.keeps
