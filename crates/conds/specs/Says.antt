@@ -7,6 +7,7 @@ use Rattle.meaning.specs.Records.{Node}
 use Rattle.meaning.specs.Queries as Queries
 use Rattle.meaning.specs.Queries.{expand_cond}
 use Rattle.meaning.specs.Typing as Typing
+use Rattle.refusals.specs.declared.Reason.{Reason}
 use Rattle.refusals.specs.declared.Refusal.{Refusal}
 use Rattle.refusals.specs.Says.{out}
 use Rattle.scope.specs.Shows.{var_of, Shows}
@@ -21,6 +22,10 @@ told r = out (λ a. a) r
 -- a variable, or a refusal
 abbrev pub variable_told : Result Var Refusal → Out Records.Var
 variable_told r = out var_of r
+
+-- 13 at node n
+abbrev pub missing_at : ℕ → Refusal
+missing_at n = record { reason = Reason.NotInScope; place = n }
 
 -- the condition at node n, from those at the nodes that it names
 abbrev pub cond_of : ℕ → (ℕ → Queries.Cond) → Cond → Queries.Cond

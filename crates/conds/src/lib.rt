@@ -10,11 +10,21 @@ ghost use Rattle.meaning.specs.Queries.{cond_at};
 ghost use Rattle.meaning.specs.Typing.{lookup, tree_type, type_cond};
 ghost use Rattle.scope.specs.Shows.{var_of};
 ghost use Rattle.uses.specs.Counts.{Lowers};
-ghost use Rattle.conds.specs.Says.{told, variable_told, Says, Answers};
+ghost use Rattle.conds.specs.Says.{told, variable_told, missing_at, Says, Answers};
 
 use refusals::{Reason, Refusal};
 use scope::{Scope, Var};
 use tables::Nodes;
+
+// 13 at node n.
+fn missing(n: usize) -> Refusal
+    ensures { result ≡ missing_at n }
+{
+    Refusal {
+        reason: Reason::NotInScope,
+        place: n,
+    }
+}
 
 // Variable v, for node n: 13 if it is not in scope.
 fn known(scope: &Scope, n: usize, v: u16) -> Result<Var, Refusal>
@@ -22,19 +32,18 @@ fn known(scope: &Scope, n: usize, v: u16) -> Result<Var, Refusal>
     ensures { Answers scope.now (variable_told result) (λ g. lookup n g v) }
 {
     let x = scope.get(usize::from(v));
-    x.ok_or(Refusal {
-        reason: Reason::NotInScope,
-        place: n,
-    })
+    x.ok_or(missing(n))
 }
 
-// Its entry.
+// The entry of variable v, for node n: 13 if it is not in scope.
 pub fn variable(scope: &Scope, n: usize, v: u16) -> Result<u16, Refusal>
     requires { v ≤ 63 }
     ensures { Answers scope.now (told result) (λ g. Base.◌>>=◌ (lookup n g v) (λ y. ok (type_in y))) }
 {
-    let x = known(scope, n, v)?;
-    Ok(x.entry())
+    match scope.lookup(usize::from(v)) {
+        (_, Some(x)) => Ok(x.entry()),
+        (_, None) => Err(missing(n)),
+    }
 }
 
 // The entry of a tree variable: 13, then 15 if it is a forest variable.

@@ -1,5 +1,5 @@
-// The variables in scope: what each of the 64 that there can be is, if it is in scope. A scope is a value: `bind`, `unbind` and `lookup` hand it back. `get`, `set`
-// and `clear` do the same to a scope that is lent: it has 384 bytes, and handing it back copies them.
+// The variables in scope: what each of the 64 that there can be is, if it is in scope. A scope is a value: `bind`, `unbind` and `lookup` hand it back, as let and a
+// variable have it. `get`, `set` and `clear` do the same to a scope that is lent: it has 384 bytes, and handing it back copies them.
 #![tactic(auto)]
 
 ghost use Rattle.std.specs.Prelude.{◌≡◌, ◌<◌, length, get_or, Some, None};
@@ -70,6 +70,7 @@ impl Scope {
     }
 
     // The scope again, and what the variable is, if it is in scope.
+    #[inline(always)]
     pub fn lookup(self, v: usize) -> (Scope, Option<Var>)
         requires { v < 64 }
         ensures same { result.0 ≡ self }
@@ -79,6 +80,7 @@ impl Scope {
     }
 
     // The scope with the variable.
+    #[inline(always)]
     pub fn bind(mut self, v: usize, x: Var) -> Scope
         requires { v < 64 }
         ensures { result ≡ bound self v (Some x) }
@@ -88,6 +90,7 @@ impl Scope {
     }
 
     // The scope without it.
+    #[inline(always)]
     pub fn unbind(mut self, v: usize) -> Scope
         requires { v < 64 }
         ensures { result ≡ bound self v None }

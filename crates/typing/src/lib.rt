@@ -151,12 +151,12 @@ fn named(
 {
     let w = usize::from(v);
     if k != 0 {
-        scope.clear(w);
+        *scope = scope.unbind(w);
         return Ok(Next::Up { made: part, top: i });
     }
     let source = joins::free(n, v, Ok(part), scope)?;
     let x = Var::Forest(source.at as u16);
-    scope.set(w, x);
+    *scope = scope.bind(w, x);
     Ok(go_on(stack, i, 1, q, source.count))
 }
 

@@ -8,7 +8,7 @@ use Rattle.typing.proofs.named.Goals as goal
 
 pub returns-then-k-ne0 : goal.returns-then-k-ne0
 returns-then-k-ne0 c =
-    λ D C p ws cs a l B low. turn_done D _ _ _ _ _ _ _ _ a (Std.Ok _) (let_done D _ _ _ _ _ _ _ B low _ _ p _ _ (one_less c.if-k-ne0.true) c.from-w.ensures c.clear.ensures)
+    λ D C p ws cs a l B low. turn_done D _ _ _ _ _ _ _ _ a (Std.Ok _) (let_done D _ _ _ _ _ _ _ B low _ _ p _ _ (one_less c.if-k-ne0.true) c.from-w.ensures c.unbind.ensures)
 
 pub returns-in_err-source : goal.returns-in_err-source
 returns-in_err-source c =
@@ -17,4 +17,4 @@ returns-in_err-source c =
 
 pub returns : goal.returns
 returns c =
-    λ D C p ws cs a l B low. turn_second D _ _ _ _ _ _ _ _ a c.if-k-ne0.false l (let_second D _ _ _ _ _ _ _ B low _ _ p _ (freed c.in_ok-source.ensures c.requires.low) c.from-w.ensures (freed_bound c.in_ok-source.ensures c.from-w.result c.set.ensures)) (freed_goes c.in_ok-source.ensures c.go_on.ensures.comes) refl c.go_on.ensures.keeps
+    λ D C p ws cs a l B low. turn_second D _ _ _ _ _ _ _ _ a c.if-k-ne0.false l (let_second D _ _ _ _ _ _ _ B low _ _ p _ (freed c.in_ok-source.ensures c.requires.low) c.from-w.ensures (freed_bound c.in_ok-source.ensures c.from-w.result c.bind.ensures)) (freed_goes c.in_ok-source.ensures c.go_on.ensures.comes) refl c.go_on.ensures.keeps
