@@ -1,5 +1,4 @@
-// A type table that typing grows, an entry at a time, with the class of every entry beside it. An entry's words are read by `read`, and entries are added by
-// `append`.
+// A type table that typing grows, an entry at a time, with the class of every entry beside it. `append` adds an entry; `read` gives the words of one.
 #![tactic(auto)]
 
 ghost use Rattle.std.specs.Prelude.{◌*◌, ◌<◌, ◌≤◌, length};

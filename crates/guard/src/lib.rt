@@ -146,7 +146,9 @@ fn circle(types: &Types, defs: &[u16], masks: &mut [u64], reach: &mut [u64]) -> 
     lowest_circle(reach)
 }
 
-// The same with arrays for so many entries: clearing them is most of what a small table costs.
+// The same with arrays for so many entries: clearing them is most of what a small table costs. A call of its own, so that only a table with definitions
+// takes the stack for them, and only a large one that of the larger.
+#[inline(never)]
 fn circle_of<const N: usize>(types: &Types, defs: &[u16]) -> Option<usize>
     requires given { Given types.now defs.now }
     requires few { length types.now ≤ N }

@@ -1,7 +1,7 @@
 // What a type entry reaches, elements entered, as a mark for each entry; and the atoms among it that pass a test, by increasing entry number.
 #![tactic(auto)]
 
-ghost use Rattle.std.specs.Prelude.{◌≡◌, true, [], ◌∷◌, ◌*◌, ◌≤◌, ◌<◌, length};
+ghost use Rattle.std.specs.Prelude.{◌≡◌, true, [], ◌∷◌, ◌*◌, ◌≤◌, ◌<◌, length, get_or};
 ghost use Rattle.meaning.specs.Types.{Defs, head_of};
 ghost use Rattle.meaning.specs.Reach.{steps_of, reached, atom_passes};
 ghost use Rattle.entries.specs.Says.{shown};
@@ -29,6 +29,16 @@ fn push(marks: &mut [u16], count: usize, left: usize, e: usize) -> usize
     left + 1
 }
 
+// The same for the definition of a name.
+fn follow(d: u16, defs: &[u16], marks: &mut [u16], count: usize, left: usize) -> usize
+    requires inside { d < length defs.now }
+    requires low { get_or defs.now d 0 < count }
+    requires room { Room marks.old count left }
+    ensures { Grew count marks.old marks.new left result (get_or defs.now d 0 ∷ []) }
+{
+    push(marks, count, left, usize::from(defs[usize::from(d)]))
+}
+
 // The same for what stands directly in an entry: an element's child; both children of a pair or union; the child of star, plus and opt; a name's
 // definition.
 fn visit(x: Ty, defs: &[u16], marks: &mut [u16], count: usize, left: usize) -> usize
@@ -44,7 +54,7 @@ fn visit(x: Ty, defs: &[u16], marks: &mut [u16], count: usize, left: usize) -> u
             push(marks, count, more, usize::from(b))
         }
         Ty::Star(a) | Ty::Plus(a) | Ty::Opt(a) => push(marks, count, left, usize::from(a)),
-        Ty::Name(d) => push(marks, count, left, usize::from(defs[usize::from(d)])),
+        Ty::Name(d) => follow(d, defs, marks, count, left),
     }
 }
 

@@ -18,12 +18,11 @@ push-requires-in-Pair-clause-low c = omega (arith, c.from-in-Pair-2.ensures, wit
 pub push-requires-in-Star-clause-low : goal.push-requires-in-Star-clause-low
 push-requires-in-Star-clause-low c = omega (arith, c.from-in-Star.ensures, within_one c.requires.within (steps_one _ c.in-Star.is))
 
-pub bounds-defs-from : goal.bounds-defs-from
-bounds-defs-from c = omega (arith, c.from-in-Name.ensures, within_name c.requires.within c.in-Name.is)
+pub follow-requires-clause-inside : goal.follow-requires-clause-inside
+follow-requires-clause-inside c = within_name c.requires.within c.in-Name.is
 
-pub push-requires-in-Name-clause-low : goal.push-requires-in-Name-clause-low
-push-requires-in-Name-clause-low c =
-    omega (arith, rw c.from-in-Name.ensures at c.from-in-Name-2.ensures, within_one c.requires.within (steps_name _ c.in-Name.is))
+pub follow-requires-clause-low : goal.follow-requires-clause-low
+follow-requires-clause-low c = within_one c.requires.within (steps_name _ c.in-Name.is)
 
 pub returns-in-Empty : goal.returns-in-Empty
 returns-in-Empty c = grew_by (steps_none _ c.in-Empty.is) (grew_none _ _ _)
@@ -42,5 +41,4 @@ pub returns-in-Star : goal.returns-in-Star
 returns-in-Star c = grew_by (steps_one _ c.in-Star.is ∙ ap (◌∷ []) (sym c.from-in-Star.ensures)) c.push-in-Star.ensures
 
 pub returns-in-Name : goal.returns-in-Name
-returns-in-Name c =
-    grew_by (steps_name _ c.in-Name.is ∙ ap (◌∷ []) (sym (rw c.from-in-Name.ensures at c.from-in-Name-2.ensures))) c.push-in-Name.ensures
+returns-in-Name c = grew_by (steps_name _ c.in-Name.is) c.follow.ensures
