@@ -171,6 +171,39 @@ module _ (D : Defs) (T : Table) (defs : List ℕ) (count e : ℕ) where
       pub visiting_end : marks_of count ms ≡ reached true D T e
       visiting_end = ext_get_or false (marks_of count ms) R (marks_length count ms ∙ sym (Reach.reached_length true D T e (rw size low) ∙ size)) (λ i l. same_at i (omega (arith, marks_length count ms)))
 
+    -- one that is to be visited
+    module _ {before ms : List ℕ} {left next : ℕ} (one : left ≡ suc next) (v : Visiting before ms left) where
+      here : Visiting before ms (suc next)
+      here = subst (Visiting before ms) one v
+
+      pub next_room : Room ms count next
+      next_room = record { most = here.room.most; long = here.room.long; few = omega (arith, here.room.few) }
+
+      pub next_place : count + next < length ms
+      next_place = omega (arith, here.room.long, here.room.few)
+
+      pub next_small : count + next ≤ 8192
+      next_small = omega (arith, here.room.most, here.room.few)
+
+      module _ {y : ℕ} (is : y ≡ get_or ms (count + next) 0) where
+        entry_low : y < count
+        entry_low = omega (arith, is, (here.listed next (omega arith)).0)
+
+        pub next_inside : y < length T
+        next_inside = rw size entry_low
+
+        -- the entry that is visited, as it was read
+        module _ (x : Ty) (read : shown x ≡ at T y) where
+          pub next_within : Within count defs (shown x)
+          next_within = rw read (within y entry_low)
+
+          pub next_visited : {ns : List ℕ} {r : ℕ} → Grew count ms ns next r (steps_of true defs (shown x)) → Visiting before ns r
+          next_visited w = visiting_more here is (grew_by (ap (steps_of true defs) (sym read)) w)
+
+-- where nothing is left
+pub none_left : {D : Defs} {T : Table} {defs : List ℕ} {count e left : ℕ} {before ms : List ℕ} → left ≤ 0 → Visiting D T defs count e before ms left → Visiting D T defs count e before ms 0
+none_left {D} {T} {defs} {count} {e} {left} {before} {ms} z v = subst (Visiting D T defs count e before ms) {x = left} {y = 0} (omega (arith, z)) v
+
 -- THE DEFINITIONS IN USE: whichever they are
 pub record Anyhow (T : Table) (defs : List ℕ) (count e : ℕ) (before ms : List ℕ) (left : ℕ) : Type 0 where
   pub is : (D : Defs) → Given T defs D → Visiting D T defs count e before ms left
@@ -195,33 +228,27 @@ module _ {T : Table} {defs : List ℕ} {count e : ℕ} (size : length T ≡ coun
 
   -- one that is to be visited
   module _ {before ms : List ℕ} {left next : ℕ} (one : left ≡ suc next) (a : Anyhow T defs count e before ms left) where
-    here : {D : Defs} → Given T defs D → Visiting D T defs count e before ms (suc next)
-    here {D} g = subst (Visiting D T defs count e before ms) one (a.is D g)
-
     module _ {D : Defs} (g : Given T defs D) where
       pub anyhow_room : Room ms count next
-      anyhow_room = let v = here g in record { most = v.room.most; long = v.room.long; few = omega (arith, v.room.few) }
+      anyhow_room = next_room D T defs count e g size low one (a.is D g)
 
       pub anyhow_place : count + next < length ms
-      anyhow_place = let v = here g in omega (arith, v.room.long, v.room.few)
+      anyhow_place = next_place D T defs count e g size low one (a.is D g)
 
       pub anyhow_small : count + next ≤ 8192
-      anyhow_small = let v = here g in omega (arith, v.room.most, v.room.few)
+      anyhow_small = next_small D T defs count e g size low one (a.is D g)
 
       module _ {y : ℕ} (is : y ≡ get_or ms (count + next) 0) where
-        entry_low : y < count
-        entry_low = let v = here g in omega (arith, is, (v.listed next (omega arith)).0)
-
         pub anyhow_inside : y < length T
-        anyhow_inside = rw size entry_low
+        anyhow_inside = next_inside D T defs count e g size low one (a.is D g) is
 
         -- the entry that is visited, as it was read
         pub anyhow_within : (x : Ty) → shown x ≡ at T y → Within count defs (shown x)
-        anyhow_within x read = rw read (rw size at (given_within g y anyhow_inside))
+        anyhow_within = next_within D T defs count e g size low one (a.is D g) is
 
     pub anyhow_visited : {y : ℕ} → y ≡ get_or ms (count + next) 0 → (x : Ty) → shown x ≡ at T y → {ns : List ℕ} {r : ℕ} → Grew count ms ns next r (steps_of true defs (shown x)) → Anyhow T defs count e before ns r
-    anyhow_visited is x read w = record { is = λ D g. visiting_more D T defs count e g size low (here g) is (grew_by (ap (steps_of true defs) (sym read)) w) }
+    anyhow_visited is x read w = record { is = λ D g. next_visited D T defs count e g size low one (a.is D g) is x read w }
 
   -- where nothing is left
   pub anyhow_end : {before ms : List ℕ} {left : ℕ} → left ≤ 0 → Anyhow T defs count e before ms left → (D : Defs) → Given T defs D → marks_of count ms ≡ reached true D T e
-  anyhow_end {before} {ms} {left} z a D g = visiting_end D T defs count e g size low (subst (Visiting D T defs count e before ms) {x = left} {y = 0} (omega (arith, z)) (a.is D g))
+  anyhow_end z a D g = visiting_end D T defs count e g size low (none_left z (a.is D g))

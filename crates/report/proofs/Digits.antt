@@ -6,6 +6,8 @@ use Rattle.std.proofs.lemmas.Bool.{cases_lt}
 use Rattle.std.proofs.Common.{sym, append_assoc}
 use Rattle.std.specs.Fmt as Fmt
 use Rattle.std.proofs.lemmas.Fmt.{AppendsLastDigit, decimal_from_appends, length-decimal-le}
+use Rattle.refusals.specs.declared.Reason.{Reason}
+use Rattle.refusals.specs.Says.{number_of}
 use Rattle.report.specs.Text.{digit_ascii, spelled, decimal, entry_line, result, result_line, stretch_line, refused, refused_line}
 use Rattle.report.proofs.Lines.{spelled_one, spelled_more}
 
@@ -63,6 +65,33 @@ pub refused_printed : (number place : ℕ) → number < 2 ^ 64 → place < 2 ^ 6
     → refused ++ (((Fmt.decimal number ++ (32 ∷ 97 ∷ 116 ∷ 32 ∷ [])) ++ Fmt.decimal place) ++ (10 ∷ [])) ≡ refused_line number place
 unfolding refused_line
 refused_printed number place h k = rw (decimal_printed number h, decimal_printed place k) (simp append_assoc)
+
+-- a reason's number is small
+pub number_small : (r : Reason) → number_of r < 2 ^ 64
+number_small Reason.Cut = omega arith
+number_small Reason.UnknownKind = omega arith
+number_small Reason.WrongLength = omega arith
+number_small Reason.OutOfOrder = omega arith
+number_small Reason.TooMany = omega arith
+number_small Reason.Unfit = omega arith
+number_small Reason.DeclaredTwice = omega arith
+number_small Reason.NoQuery = omega arith
+number_small Reason.NoDefinition = omega arith
+number_small Reason.Circle = omega arith
+number_small Reason.NotTrees = omega arith
+number_small Reason.NotUsedOnce = omega arith
+number_small Reason.NotInScope = omega arith
+number_small Reason.InScope = omega arith
+number_small Reason.OfForest = omega arith
+number_small Reason.TypesFull = omega arith
+number_small Reason.AnswerShort = omega arith
+number_small Reason.WrongValues = omega arith
+number_small Reason.NotOneTree = omega arith
+number_small Reason.ValuesFull = omega arith
+number_small Reason.WorkFull = omega arith
+number_small Reason.NoSuchText = omega arith
+number_small Reason.TooDeep = omega arith
+number_small Reason.RoomShort = omega arith
 
 -- THE SAME PUT ON A PAGE, a number at a time with what stands behind it
 put_more : {next after : List ℕ} (before a rest : List ℕ) → next ≡ before ++ a → after ≡ next ++ rest → after ≡ before ++ (a ++ rest)

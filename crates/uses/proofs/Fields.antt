@@ -5,7 +5,8 @@ use mathlib.Core.Logic.{◌⊎◌, inl, inr}
 use mathlib.Core.Bool.{Bool, true, false, ◌||◌}
 use mathlib.Core.List.{List, [], ◌∷◌}
 use mathlib.Core.Option.{Option, none, some}
-use Prim.Native.Nat.{ℕ, ◌≤◌}
+use Prim.Native.Nat.{ℕ, ◌≤◌, ◌<◌}
+use native.Mathlib.Decide.{ℕ_discrete}
 use native.Mathlib.Omega.{arith}
 use borrow.Author.Tests.{ne_eqb, leb-true}
 use lib.Dec.{eqb, leb}
@@ -73,3 +74,18 @@ module _ {k : ℕ} (a b c : ℕ) where
   names_parts (inl e) = rw e refl
   names_parts (inr (inl e)) = rw e refl
   names_parts (inr (inr e)) = rw e refl
+
+  names_loop : k ≡ Kinds.query·for → (b ∷ c ∷ []) ≡ uses_of (node k a b c)
+  unfolding find forms named
+  names_loop e = rw e refl
+
+  names_let : k ≡ Kinds.query·let → (b ∷ c ∷ []) ≡ uses_of (node k a b c)
+  unfolding find forms named
+  names_let e = rw e refl
+
+  pub names_bound : 38 < k → k < 41 → (b ∷ c ∷ []) ≡ uses_of (node k a b c)
+  names_bound l h = go (ℕ_discrete k Kinds.query·for)
+    where
+      go : Dec (k ≡ Kinds.query·for) → (b ∷ c ∷ []) ≡ uses_of (node k a b c)
+      go (yes e) = names_loop e
+      go (no n) = names_let (omega arith)
