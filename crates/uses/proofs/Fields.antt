@@ -75,17 +75,14 @@ module _ {k : ℕ} (a b c : ℕ) where
   names_parts (inr (inl e)) = rw e refl
   names_parts (inr (inr e)) = rw e refl
 
-  names_loop : k ≡ Kinds.query·for → (b ∷ c ∷ []) ≡ uses_of (node k a b c)
+  names_either : (k ≡ Kinds.query·for) ⊎ (k ≡ Kinds.query·let) → (b ∷ c ∷ []) ≡ uses_of (node k a b c)
   unfolding find forms named
-  names_loop e = rw e refl
-
-  names_let : k ≡ Kinds.query·let → (b ∷ c ∷ []) ≡ uses_of (node k a b c)
-  unfolding find forms named
-  names_let e = rw e refl
+  names_either (inl e) = rw e refl
+  names_either (inr e) = rw e refl
 
   pub names_bound : 38 < k → k < 41 → (b ∷ c ∷ []) ≡ uses_of (node k a b c)
   names_bound l h = go (ℕ_discrete k Kinds.query·for)
     where
       go : Dec (k ≡ Kinds.query·for) → (b ∷ c ∷ []) ≡ uses_of (node k a b c)
-      go (yes e) = names_loop e
-      go (no n) = names_let (omega arith)
+      go (yes e) = names_either (inl e)
+      go (no n) = names_either (inr (omega arith))
